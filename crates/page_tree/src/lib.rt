@@ -1,0 +1,2 @@
+//! The ordered tree of pages.
+#![tactic(auto)]

@@ -1,7 +1,7 @@
 -- The flat rows of a tree, depth first: what django-treebeard keeps of it, a row for each page with its materialized
 -- path. Looking rows up, and putting a new one in its place.
 use Rattle.std.specs.Prelude.{ℕ, Bool, true, false, Option, Some, None, ◌==◌, nat_lt, ◌&&◌, List, [], ◌∷◌, ◌++◌, ◌+◌}
-use Rattle.std.specs.Prelude.{length, map, filter, find, if◌then◌else◌}
+use Rattle.std.specs.Prelude.{map, filter, find, if◌then◌else◌}
 use Rattle.std.specs.Option.{option_map}
 use Rattle.std.specs.Str.{bytes_eq}
 use Rattle.page_tree.specs.Tree.{Forest, bare, grown}

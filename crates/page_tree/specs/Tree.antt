@@ -1,6 +1,6 @@
 -- The ordered tree of pages: each page has a step among its siblings, which rises from one sibling to the next
 -- (django-treebeard 4.7, MP_Node). What a cut and a graft do to the steps of siblings is this project's own.
-use Rattle.std.specs.Prelude.{ℕ, Bool, true, false, ◌==◌, nat_eq, ◌||◌, List, [], ◌∷◌, ◌++◌, ◌+◌, ◌<◌, if◌then◌else◌}
+use Rattle.std.specs.Prelude.{ℕ, Bool, false, ◌==◌, nat_eq, ◌||◌, List, [], ◌∷◌, ◌++◌, ◌+◌, ◌<◌, if◌then◌else◌}
 use Rattle.std.specs.Prelude.{Option, Some, None}
 use Rattle.std.specs.List.{IsDistinct}
 use Rattle.std.specs.Str.{bytes_eq}

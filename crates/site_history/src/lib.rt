@@ -1,0 +1,2 @@
+//! Histories of any kind of world: definitions for proofs alone.
+#![tactic(auto)]

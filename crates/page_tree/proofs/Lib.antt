@@ -1,0 +1,4 @@
+pub mod RowLemmas
+pub mod RootLemmas
+pub mod WalkLemmas
+mod Examples

@@ -1,0 +1,6 @@
+use Rattle.std.proofs.Common.{◌≡◌, ℕ, List, take}
+use Rattle.site_ids.proofs.texts.Texts.copy.Given as goal
+
+-- the texts copied so far are the first ones
+abbrev pub invariant-loop-text : goal.invariant-loop-text
+invariant-loop-text l = l.texts.items ≡ take l.text-index l.text-items

@@ -1,0 +1,6 @@
+-- The error of calls that only want of memory can refuse.
+use Rattle.site_ids.specs.declared.no_memory.NoMemory.{NoMemory}
+
+-- the one value of that error
+abbrev pub no_memory : NoMemory
+no_memory = record {}

@@ -1,0 +1,71 @@
+//! Blocks of contents.
+ghost use Rattle.std.specs.Prelude.{◌≡◌, ◌==◌, length};
+
+use site_ids::{PageId, Text, Texts};
+use std::marker::Model;
+
+/// One block of a content.
+#[derive(Debug, Drop)]
+pub enum Block {
+    /// A heading.
+    Heading(Text),
+    /// A paragraph.
+    Paragraph(Text),
+    /// A list of texts; a content holds lists of 1 to 1,000.
+    Items(Texts),
+    /// A link to the page of this number, which need not exist.
+    Page(PageId),
+}
+
+/// The blocks of a content, in their order. A contract sees the list of them.
+#[derive(Debug, Drop)]
+pub struct Blocks {
+    blocks: Vec<Block>,
+}
+
+impl Model for Blocks {
+    ghost use Rattle.std.specs.Prelude.{List};
+    ghost use Rattle.site_types.specs.declared.block.Block.{Block};
+
+    ghost Value = { List Block };
+
+    ghost view = { λ list. list.blocks.items };
+}
+
+impl Blocks {
+    /// The list of these blocks, in their order.
+    pub fn from_vec(blocks: Vec<Block>) -> Self
+        ensures { result ≡ blocks.items }
+    {
+        Blocks { blocks }
+    }
+
+    /// The blocks, given back with their memory.
+    pub fn into_vec(self) -> Vec<Block>
+        ensures { result.items ≡ self }
+    {
+        let Blocks { blocks } = self;
+        blocks
+    }
+
+    /// The blocks, in their order.
+    pub fn as_slice(&self) -> &[Block]
+        ensures { result.now ≡ self.now }
+    {
+        self.blocks.as_slice()
+    }
+
+    /// The number of blocks.
+    pub fn len(&self) -> usize
+        ensures { result ≡ length self.now }
+    {
+        self.blocks.len()
+    }
+
+    /// Whether there are no blocks.
+    pub fn is_empty(&self) -> bool
+        ensures { result ≡ (length self.now == 0) }
+    {
+        self.blocks.is_empty()
+    }
+}

@@ -1,8 +1,7 @@
 //! Lists of texts.
 ghost use Rattle.std.specs.Prelude.{◌≡◌, ◌==◌, ℕ, List, length, IfOk};
 
-use crate::NoMemory;
-use crate::Text;
+use crate::{NoMemory, Text};
 use std::alloc::Global;
 use std::marker::Model;
 

@@ -1,6 +1,6 @@
 -- What a content is, its form in bytes and its limits.
-use Rattle.std.specs.Prelude.{ℕ, ◌≤◌, List, [], ◌∷◌, ◌++◌, length, All, w16, w32}
-use Rattle.std.specs.Int.{to_be_bytes}
+use Rattle.std.specs.Prelude.{ℕ, ◌≤◌, List, [], ◌∷◌, ◌++◌, length, All}
+use Rattle.std.specs.Int.{w16, w32, to_be_bytes}
 use Rattle.site_types.specs.declared.block.Block.{Block}
 use Rattle.site_types.specs.declared.block.Block.TheVariants.{Heading, Paragraph, Items, Page}
 use Rattle.site_types.specs.declared.limits.TheConstants.{MAX_TITLE_BYTES, MAX_BLOCKS, MAX_LIST_TEXTS, MAX_CONTENT_BYTES}

@@ -2,8 +2,8 @@
 ghost use Rattle.std.specs.Prelude.{◌≡◌, length};
 ghost use Rattle.site_types.specs.Content.{content_form};
 
-use crate::{Blocks};
-use site_ids::{Text};
+use crate::Blocks;
+use site_ids::Text;
 use std::marker::Model;
 
 /// A title and blocks within the limits: a title of 1 to 255 bytes, at most 1,000 blocks, list
@@ -25,8 +25,7 @@ impl Model for Content {
 
     ghost invariant = { λ content.
         let value : ContentValue = record { title = content.title; blocks = content.blocks } in
-        FitsLimits value × (content.form_bytes ≡ length (content_form value))
-    };
+        FitsLimits value × (content.form_bytes ≡ length (content_form value)) };
 }
 
 impl Content {

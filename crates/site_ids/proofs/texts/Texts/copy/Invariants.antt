@@ -1,4 +1,4 @@
-use Rattle.std.proofs.Common.{◌≡◌, ℕ, List, take}
+use Rattle.std.proofs.Common.{◌≡◌, take}
 use Rattle.site_ids.proofs.texts.Texts.copy.Given as goal
 
 -- the texts copied so far are the first ones

@@ -79,11 +79,15 @@ abbrev pub number_after : ℕ → List ℕ → ℕ
 number_after n [] = n
 number_after n (digit ∷ digits) = number_after (10 * n + (digit - 48)) digits
 
+-- whether a number is an id of a page
+abbrev pub is_page_id : ℕ → Bool
+is_page_id n = nat_le 1 n && nat_le n 1000000
+
 -- whether the digits write an id of a page: 1 to 1,000,000, without a zero in front
 abbrev pub writes_page_id : List ℕ → Bool
 writes_page_id [] = false
 writes_page_id (digit ∷ digits) =
-    not (digit == 48) && (nat_le (length digits) 6 && nat_le (number_after 0 (digit ∷ digits)) 1000000)
+    not (digit == 48) && (nat_le (length digits) 6 && is_page_id (number_after 0 (digit ∷ digits)))
 
 -- whether a title has 1 to 255 bytes
 abbrev pub is_title_length : ℕ → Bool

@@ -1,0 +1,6 @@
+//! The page tree server.
+#![tactic(auto)]
+
+mod form;
+
+fn main() {}

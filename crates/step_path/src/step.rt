@@ -1,0 +1,85 @@
+//! One step of a path, and its four characters.
+ghost use Rattle.std.specs.Prelude.{◌≡◌, ℕ, ◌+◌, ◌<◌};
+ghost use Rattle.std.specs.Option.{SomeIff};
+ghost use Rattle.step_path.specs.Step.{IsStep, digit_of, step_text};
+
+use std::marker::Model;
+
+/// The greatest step, whose text is `ZZZZ`.
+pub const LAST_STEP: u32 = 1_679_615;
+
+/// The place of a page among its siblings, from 1 to 1,679,615.
+#[derive(Clone, Copy, Debug, PartialEq, Eq, PartialOrd, Ord, Hash)]
+pub struct Step {
+    number: u32,
+}
+
+impl Model for Step {
+    ghost Value = { ℕ };
+
+    ghost view = { λ step. step.number };
+
+    ghost invariant = { λ step. IsStep step.number };
+
+    ghost inverse = { λ n. record { number = n } };
+}
+
+impl Step {
+    /// The step with this number, or `None` exactly outside 1 to 1,679,615.
+    pub fn new(n: u32) -> Option<Step>
+        ensures { SomeIff result (IsStep n) n }
+    {
+        if let 1..=LAST_STEP = n {
+            Some(Step { number: n })
+        } else {
+            None
+        }
+    }
+
+    /// The step of a page that has no sibling before it, 1.
+    pub fn first() -> Step
+        ensures { result ≡ 1 }
+    {
+        Step { number: 1 }
+    }
+
+    /// The number, from 1 to 1,679,615.
+    pub fn get(self) -> u32
+        ensures value { result ≡ self }
+        ensures range { IsStep result }
+    {
+        self.number
+    }
+
+    /// The step after this one, or `None` exactly at 1,679,615.
+    pub fn next(self) -> Option<Step>
+        ensures { SomeIff result (self < LAST_STEP) (self + 1) }
+    {
+        Step::new(self.number + 1)
+    }
+
+    /// The four characters, the highest digit first, as `0001` and `ZZZZ`.
+    pub fn text(self) -> [u8; 4]
+        ensures { result ≡ step_text self }
+    {
+        let n = self.number;
+        [
+            digit(n / 46_656),
+            digit(n / 1296 % 36),
+            digit(n / 36 % 36),
+            digit(n % 36),
+        ]
+    }
+}
+
+/// The character that writes a digit: `0` to `9`, then `A` to `Z`.
+fn digit(value: u32) -> u8
+    requires { value < 36 }
+    ensures { result ≡ digit_of value }
+{
+    if value < 10 {
+        value as u8 + b'0'
+    } else {
+        value as u8 - 10 + b'A'
+    }
+}

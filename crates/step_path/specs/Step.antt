@@ -1,6 +1,6 @@
 -- What a step of a materialized path is: django-treebeard 4.7, MP_Node, with steplen 4 and the
 -- alphabet of 36 digits, "0" to "9" and then "A" to "Z".
-use Rattle.std.specs.Prelude.{ℕ, ◌+◌, ◌-◌, ◌*◌, ◌/◌, ◌%◌, ◌≤◌, List, [], ◌∷◌, nat_lt, if◌then◌else◌}
+use Rattle.std.specs.Prelude.{◌≡◌, ℕ, ◌+◌, ◌-◌, ◌*◌, ◌/◌, ◌%◌, ◌≤◌, List, [], ◌∷◌, nat_lt, if◌then◌else◌}
 use Rattle.step_path.specs.declared.step.TheConstants.{LAST_STEP}
 
 -- a step is a number from 1 to 36 ^ 4 - 1, the greatest that four digits can write
@@ -19,6 +19,10 @@ digit_read c = if nat_lt c 65 then c - 48 else (c - 55)
 unfoldable pub step_text : ℕ → List ℕ
 step_text n =
     digit_of (n / 46_656) ∷ digit_of (n / 1296 % 36) ∷ digit_of (n / 36 % 36) ∷ digit_of (n % 36) ∷ []
+
+-- the text is the text of a step
+abbrev pub IsStepText : List ℕ → Type 0
+IsStepText text = (step : ℕ) × IsStep step × (step_text step ≡ text)
 
 -- the number that four characters write
 abbrev pub number_read : ℕ → ℕ → ℕ → ℕ → ℕ

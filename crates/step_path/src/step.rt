@@ -1,12 +1,15 @@
 //! One step of a path, and its four characters.
-ghost use Rattle.std.specs.Prelude.{◌≡◌, ℕ, ◌+◌, ◌<◌};
+ghost use Rattle.std.specs.Prelude.{◌≡◌, ℕ, ◌+◌, ◌<◌, ◌↔◌, IsSome, IfSome};
 ghost use Rattle.std.specs.Option.{SomeIff};
-ghost use Rattle.step_path.specs.Step.{IsStep, digit_of, step_text};
+ghost use Rattle.step_path.specs.Step.{IsStep, IsStepText, digit_of, digit_read, step_text};
 
 use std::marker::Model;
 
 /// The greatest step, whose text is `ZZZZ`.
 pub const LAST_STEP: u32 = 1_679_615;
+
+/// The number of characters of a step's text.
+pub const STEP_TEXT: usize = 4;
 
 /// The place of a page among its siblings, from 1 to 1,679,615.
 #[derive(Clone, Copy, Debug, PartialEq, Eq, PartialOrd, Ord, Hash)]
@@ -43,6 +46,14 @@ impl Step {
         Step { number: 1 }
     }
 
+    /// The step with this number, which is one.
+    pub(crate) fn checked(number: u32) -> Step
+        requires { IsStep number }
+        ensures { result ≡ number }
+    {
+        Step { number }
+    }
+
     /// The number, from 1 to 1,679,615.
     pub fn get(self) -> u32
         ensures value { result ≡ self }
@@ -70,6 +81,24 @@ impl Step {
             digit(n % 36),
         ]
     }
+
+    /// The step with this text, or `None` exactly where the text is no step's, as `0000` and `000a`.
+    pub fn read(text: &[u8]) -> Option<Step>
+        ensures step { IsSome result ↔ IsStepText text.now }
+        ensures text { IfSome result (λ step. step_text step ≡ text.now) }
+    {
+        if text.len() != STEP_TEXT {
+            return None;
+        }
+        let high = digit_value(text[0]) * 46_656 + digit_value(text[1]) * 1296;
+        let low = digit_value(text[2]) * 36 + digit_value(text[3]);
+        let step = Step::new(high + low)?;
+        if step.text().as_slice() == text {
+            Some(step)
+        } else {
+            None
+        }
+    }
 }
 
 /// The character that writes a digit: `0` to `9`, then `A` to `Z`.
@@ -81,5 +110,16 @@ fn digit(value: u32) -> u8
         value as u8 + b'0'
     } else {
         value as u8 - 10 + b'A'
+    }
+}
+
+/// The digit that a character writes, and some number for a character that writes none.
+fn digit_value(character: u8) -> u32
+    ensures { result ≡ digit_read character }
+{
+    if character < b'A' {
+        u32::from(character.saturating_sub(b'0'))
+    } else {
+        u32::from(character - 55)
     }
 }

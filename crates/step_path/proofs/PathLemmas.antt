@@ -1,7 +1,12 @@
 -- How paths, their texts and what is read back from them go together.
 use Rattle.std.proofs.Common.{◌≡◌, ℕ, zero, suc, ◌+◌, ◌-◌, ◌*◌, ◌<◌, ◌≤◌, List, [], ◌∷◌, ◌++◌, length, get_or, take, drop, refl, ap, sym, ◌∙◌, subst, append_assoc, arith, length-append}
-use Rattle.std.proofs.lemmas.List.{append-nil, length-take-le, take_at, drop_at, drop_more, take-append-drop}
-use Rattle.step_path.specs.Step.{IsStep, step_text}
+use Rattle.std.specs.Prelude.{Bool, true, nat_eq}
+use Rattle.std.specs.Cmp.Lexicographic.{pointwise}
+use Rattle.std.proofs.lemmas.Bool.Decides.{Decides-eqb}
+use Rattle.std.proofs.lemmas.Slice.Eq.{starts_is}
+use Rattle.std.proofs.lemmas.List.{append-nil, length-take-le, length-drop, length_push, take_more, take_all, take_at, drop_at, drop_more, take-append-drop}
+use Rattle.step_path.specs.declared.path.TheConstants.{MAX_DEPTH}
+use Rattle.step_path.specs.Step.{IsStep, IsStepText, step_text}
 use Rattle.step_path.specs.Path.{AreSteps, IsPath, IsPathText, BeginsWith, path_text, steps_of, relabelled}
 use Rattle.step_path.proofs.StepLemmas.{number_read-step, length-step_text}
 
@@ -135,3 +140,80 @@ relabelled-append old new rest = ap (λ t. new ++ t) (drop_at old rest (length o
 -- a path with a replaced beginning begins with the new one
 pub BeginsWith-relabelled : (old new path : List ℕ) → BeginsWith new (relabelled old new path)
 BeginsWith-relabelled old new path = (drop (length old) path, refl)
+
+-- a path with one more step is a path where there is room
+pub IsPath-child : (path : List ℕ) (step : ℕ) → IsPath path → length path < MAX_DEPTH → IsStep step → IsPath (path ++ step ∷ [])
+IsPath-child path step p room is =
+    record {
+        some = omega (arith, length_push path step);
+        within = omega (arith, length_push path step);
+        steps = AreSteps-append path (step ∷ []) p.steps (is, tt);
+    }
+
+-- the first steps of a path are a path
+pub IsPath-take : (path : List ℕ) (n : ℕ) → IsPath path → 0 < n → n ≤ length path → IsPath (take n path)
+IsPath-take path n p some short =
+    record {
+        some = omega (arith, length-take-le n path short);
+        within = omega (arith, length-take-le n path short);
+        steps = AreSteps-take n path p.steps;
+    }
+
+-- a path with a replaced beginning is a path where it is short enough
+pub IsPath-relabelled : (old new path : List ℕ) → IsPath new → IsPath path →
+    length (relabelled old new path) ≤ MAX_DEPTH → IsPath (relabelled old new path)
+IsPath-relabelled old new path n p short =
+    record {
+        some = omega (arith, length-append new (drop (length old) path));
+        within = short;
+        steps = AreSteps-append new (drop (length old) path) n.steps (AreSteps-drop (length old) path p.steps);
+    }
+
+-- a list that is not empty is its front and its last element
+pub front_and_last : (path : List ℕ) (n d : ℕ) → length path ≡ n + 1 → path ≡ take n path ++ get_or path n d ∷ []
+front_and_last path n d is =
+    sym (take_all (n + 1) path (omega arith)) ∙ take_more path n d (omega arith)
+
+-- std's test of a beginning answers whether there is one
+pub BeginsWith-from_test : (r : Bool) (front whole : List ℕ) → r ≡ pointwise nat_eq front (take (length front) whole) →
+    (r ≡ true → BeginsWith front whole) × (BeginsWith front whole → r ≡ true)
+BeginsWith-from_test r front whole is =
+    let d = starts_is Decides-eqb whole front r is in
+    ((λ yes. (drop (length front) whole, sym (d.0 yes))), (λ begins. d.1 begins.0 (sym begins.1)))
+
+-- the same test of two texts of paths answers of the paths
+pub BeginsWith-from_test_of_texts : (r : Bool) (front whole : List ℕ) → IsPathText front → IsPathText whole →
+    r ≡ pointwise nat_eq front (take (length front) whole) →
+    (r ≡ true → BeginsWith (steps_of front) (steps_of whole)) × (BeginsWith (steps_of front) (steps_of whole) → r ≡ true)
+BeginsWith-from_test_of_texts r front whole f w is =
+    let test = BeginsWith-from_test r front whole is in
+    ((λ yes.
+        let begins = test.0 yes in
+        BeginsWith-from_texts (steps_of front) (steps_of whole) f.path.steps w.path.steps
+            (begins.0, ap (λ t. t ++ begins.0) f.joins ∙ begins.1 ∙ sym w.joins)),
+    (λ begins.
+        let texts = BeginsWith-texts (steps_of front) (steps_of whole) begins in
+        test.1 (texts.0, ap (λ t. t ++ texts.0) (sym f.joins) ∙ texts.1 ∙ w.joins)))
+
+-- the length of a path's text is a multiple of four, from 4 to 252
+pub IsPathText-length : (text : List ℕ) → IsPathText text →
+    (length text ≡ 4 * length (steps_of text)) × (0 < length text) × (length text ≤ 252)
+IsPathText-length text p =
+    let long : length text ≡ 4 * length (steps_of text) = ap length (sym p.joins) ∙ length-path_text (steps_of text) in
+    (long, omega (arith, p.path.some), omega (arith, p.path.within))
+
+-- each block of four characters of a path's text is the text of a step
+pub IsStepText-at : (text : List ℕ) (k : ℕ) → IsPathText text → k < length (steps_of text) →
+    IsStepText (take 4 (drop (4 * k) text))
+IsStepText-at text k p below =
+    let path = steps_of text in
+    (get_or path k 0, AreSteps-at path k 0 p.path.steps below,
+    sym (step_text_at path k 0 below) ∙ ap (λ t. take 4 (drop (4 * k) t)) p.joins)
+
+-- a text that is read whole, block by block, is a path's text, and those blocks are its steps
+pub IsPathText-read : (steps text : List ℕ) → AreSteps steps → path_text steps ≡ text → 0 < length text → length text ≤ 252 →
+    IsPathText text × (steps ≡ steps_of text)
+IsPathText-read steps text p is some short =
+    let long : length text ≡ 4 * length steps = ap length (sym is) ∙ length-path_text steps in
+    let path : IsPath steps = record { some = omega arith; within = omega arith; steps = p } in
+    let found = IsPathText-from steps text path is in (found.0, sym found.1)

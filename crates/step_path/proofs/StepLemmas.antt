@@ -1,7 +1,7 @@
 -- What the four characters of a step say, and what is read back from them.
 use Rattle.std.proofs.Common.{◌≡◌, ℕ, ◌+◌, ◌-◌, ◌*◌, ◌/◌, ◌%◌, ◌<◌, ◌≤◌, List, [], ◌∷◌, ◌++◌, length, get_or, refl, ap, sym, ◌∙◌, subst, arith}
 use Rattle.std.proofs.lemmas.Bool.Decides.{nat_tests}
-use Rattle.step_path.specs.Step.{IsStep, digit_of, digit_read, step_text, number_read, IsStepText}
+use Rattle.step_path.specs.Step.{IsStep, digit_of, digit_read, step_text, number_read, number_in_text, IsStepText}
 
 -- a digit is read back from its character
 pub digit_read-digit_of : (d : ℕ) → d < 36 → digit_read (digit_of d) ≡ d
@@ -33,17 +33,12 @@ number_read-step n step =
     ∙ digits_of_step n
 
 -- a text that is a step's is the text of the number that it writes
-pub step_from_text : (text : List ℕ) → IsStepText text →
-    let n = number_read (get_or text 0 0) (get_or text 1 0) (get_or text 2 0) (get_or text 3 0) in
-    IsStep n × (step_text n ≡ text)
+pub step_from_text : (text : List ℕ) → IsStepText text → IsStep (number_in_text text) × (step_text (number_in_text text) ≡ text)
 unfolding step_text
 step_from_text text (n, step, is) =
-    let P : List ℕ → Type 0 = λ t.
-        let m = number_read (get_or t 0 0) (get_or t 1 0) (get_or t 2 0) (get_or t 3 0) in
-        IsStep m × (step_text m ≡ t) in
-    subst P is
-        (let Q : ℕ → Type 0 = λ m. IsStep m × (step_text m ≡ step_text n) in
-        subst Q (sym (number_read-step n step)) (step, refl))
+    let P : List ℕ → Type 0 = λ t. IsStep (number_in_text t) × (step_text (number_in_text t) ≡ t) in
+    let Q : ℕ → Type 0 = λ m. IsStep m × (step_text m ≡ step_text n) in
+    subst P is (subst Q (sym (number_read-step n step)) (step, refl))
 
 -- the text of a step has four characters
 pub length-step_text : (n : ℕ) → length (step_text n) ≡ 4

@@ -1,6 +1,6 @@
 -- What a step of a materialized path is: django-treebeard 4.7, MP_Node, with steplen 4 and the
 -- alphabet of 36 digits, "0" to "9" and then "A" to "Z".
-use Rattle.std.specs.Prelude.{◌≡◌, ℕ, ◌+◌, ◌-◌, ◌*◌, ◌/◌, ◌%◌, ◌≤◌, List, [], ◌∷◌, nat_lt, if◌then◌else◌}
+use Rattle.std.specs.Prelude.{◌≡◌, ℕ, ◌+◌, ◌-◌, ◌*◌, ◌/◌, ◌%◌, ◌≤◌, List, [], ◌∷◌, nat_lt, slice_index, if◌then◌else◌}
 use Rattle.step_path.specs.declared.step.TheConstants.{LAST_STEP}
 
 -- a step is a number from 1 to 36 ^ 4 - 1, the greatest that four digits can write
@@ -28,3 +28,8 @@ IsStepText text = (step : ℕ) × IsStep step × (step_text step ≡ text)
 abbrev pub number_read : ℕ → ℕ → ℕ → ℕ → ℕ
 number_read a b c d =
     digit_read a * 46_656 + digit_read b * 1296 + digit_read c * 36 + digit_read d
+
+-- the number that the first four characters of a text write
+abbrev pub number_in_text : List ℕ → ℕ
+number_in_text text =
+    number_read (slice_index text 0) (slice_index text 1) (slice_index text 2) (slice_index text 3)

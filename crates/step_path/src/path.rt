@@ -84,7 +84,7 @@ impl Path {
     pub fn child(&self, step: Step) -> Option<Path>
         ensures { SomeIff result (length self.now < MAX_DEPTH) (self.now ++ step ∷ []) }
     {
-        if self.steps.is_full() {
+        if self.steps.len() == MAX_DEPTH {
             return None;
         }
         let mut steps = copied(&self.steps);
@@ -133,7 +133,8 @@ impl Path {
         ensures { result.items ≡ path_text self.now }
     {
         let mut text = ArrayVec::new();
-        for number in &self.steps {
+        let numbers = self.steps.as_slice();
+        for number in numbers {
             let step = Step::checked(*number);
             let _ = text.try_extend_from_slice(&step.text());
         }
@@ -142,8 +143,7 @@ impl Path {
 
     /// The path with this text, or `None` exactly where the text is no path's.
     pub fn read(text: &[u8]) -> Option<Path>
-        ensures path { IsSome result ↔ IsPathText text.now }
-        ensures value { IfSome result (λ path. path ≡ steps_of text.now) }
+        ensures path { SomeIff result (IsPathText text.now) (steps_of text.now) }
         ensures text { IfSome result (λ path. path_text path ≡ text.now) }
     {
         if text.is_empty() || text.len() > MAX_TEXT || text.len() % STEP_TEXT != 0 {
@@ -152,7 +152,9 @@ impl Path {
         let mut steps = ArrayVec::new();
         for place in 0..text.len() / STEP_TEXT {
             let start = STEP_TEXT * place;
-            let step = Step::read(&text[start..start + STEP_TEXT])?;
+            let Some(step) = Step::read(&text[start..start + STEP_TEXT]) else {
+                return None;
+            };
             steps.push(step.get());
         }
         Some(Path { steps })

@@ -1,7 +1,7 @@
 //! One step of a path, and its four characters.
-ghost use Rattle.std.specs.Prelude.{◌≡◌, ℕ, ◌+◌, ◌<◌, ◌↔◌, IsSome, IfSome};
+ghost use Rattle.std.specs.Prelude.{◌≡◌, ℕ, ◌+◌, ◌<◌, length, MatchOption};
 ghost use Rattle.std.specs.Option.{SomeIff};
-ghost use Rattle.step_path.specs.Step.{IsStep, IsStepText, digit_of, digit_read, step_text};
+ghost use Rattle.step_path.specs.Step.{IsStep, IsStepText, digit_of, digit_read, step_text, number_in_text};
 
 use std::marker::Model;
 
@@ -84,15 +84,14 @@ impl Step {
 
     /// The step with this text, or `None` exactly where the text is no step's, as `0000` and `000a`.
     pub fn read(text: &[u8]) -> Option<Step>
-        ensures step { IsSome result ↔ IsStepText text.now }
-        ensures text { IfSome result (λ step. step_text step ≡ text.now) }
+        ensures { MatchOption result (¬ IsStepText text.now) (λ step. IsStep step × (step_text step ≡ text.now)) }
     {
         if text.len() != STEP_TEXT {
             return None;
         }
-        let high = digit_value(text[0]) * 46_656 + digit_value(text[1]) * 1296;
-        let low = digit_value(text[2]) * 36 + digit_value(text[3]);
-        let step = Step::new(high + low)?;
+        let Some(step) = Step::new(number_in(text)) else {
+            return None;
+        };
         if step.text().as_slice() == text {
             Some(step)
         } else {
@@ -122,4 +121,15 @@ fn digit_value(character: u8) -> u32
     } else {
         u32::from(character - 55)
     }
+}
+
+/// The number that four characters write.
+fn number_in(text: &[u8]) -> u32
+    requires { length text.now ≡ 4 }
+    ensures { result ≡ number_in_text text.now }
+{
+    digit_value(text[0]) * 46_656
+        + digit_value(text[1]) * 1296
+        + digit_value(text[2]) * 36
+        + digit_value(text[3])
 }

@@ -8,7 +8,9 @@ use Rattle.std.specs.Cmp.Lexicographic.{slice_cmp}
 use Rattle.std.proofs.lemmas.Bool.{cases_order}
 use Rattle.std.proofs.lemmas.Bool.Decides.{nat_tests}
 use Rattle.step_path.specs.Step.{IsStep, digit_of, step_text}
-use Rattle.step_path.specs.Path.{AreSteps, IsPathText, path_text, steps_of}
+use Rattle.step_path.specs.Path.{AreSteps, IsPathText, BeginsWith, path_text, steps_of, relabelled}
+use Rattle.step_path.specs.Order.{path_cmp, IsBefore}
+use Rattle.step_path.proofs.PathLemmas.{relabelled-append}
 use Rattle.step_path.proofs.StepLemmas.{digits_of_step, highest_digit}
 
 -- a smaller number compares as less
@@ -117,3 +119,69 @@ texts_in_order a b p q =
     ap (λ t. slice_cmp nat_cmp t b) (sym p.joins)
     ∙ ap (λ t. slice_cmp nat_cmp (path_text (steps_of a)) t) (sym q.joins)
     ∙ paths_in_order (steps_of a) (steps_of b) p.path.steps q.path.steps
+
+-- only equal numbers compare as equal
+nat_cmp-same : (x y : ℕ) → nat_cmp x y ≡ Equal → x ≡ y
+nat_cmp-same x y is =
+    elim (cases_order x y) [
+        inl same ↦ same
+      | inr (inl below) ↦ let less = nat_cmp-less x y below in cc
+      | inr (inr above) ↦ let greater = nat_cmp-greater x y above in cc
+    ]
+
+-- only equal lists compare as equal
+pub path_cmp-same : (a b : List ℕ) → path_cmp a b ≡ Equal → a ≡ b
+path_cmp-same [] [] is = refl
+path_cmp-same [] (y ∷ ys) is = cc
+path_cmp-same (x ∷ xs) [] is = cc
+path_cmp-same (x ∷ xs) (y ∷ ys) is =
+    elim (cases_order x y) [
+        inl same ↦
+            let rest = path_cmp-same xs ys (sym (ap (λ o. ordering_then o (path_cmp xs ys)) (nat_cmp-equal x y same)) ∙ is) in cc
+      | inr (inl below) ↦
+            let less = ap (λ o. ordering_then o (path_cmp xs ys)) (nat_cmp-less x y below) in cc
+      | inr (inr above) ↦
+            let greater = ap (λ o. ordering_then o (path_cmp xs ys)) (nat_cmp-greater x y above) in cc
+    ]
+
+-- lists that begin alike compare as what follows
+pub path_cmp-append : (front a b : List ℕ) → path_cmp (front ++ a) (front ++ b) ≡ path_cmp a b
+path_cmp-append [] a b = refl
+path_cmp-append (x ∷ front) a b =
+    ap (λ o. ordering_then o (path_cmp (front ++ a) (front ++ b))) (nat_cmp-equal x x refl) ∙ path_cmp-append front a b
+
+-- a path comes before the longer ones that begin with it
+pub IsBefore-append : (path : List ℕ) (step : ℕ) (rest : List ℕ) → IsBefore path (path ++ step ∷ rest)
+IsBefore-append [] step rest = refl
+IsBefore-append (x ∷ path) step rest =
+    ap (λ o. ordering_then o (path_cmp path (path ++ step ∷ rest))) (nat_cmp-equal x x refl) ∙ IsBefore-append path step rest
+
+-- what comes between two lists that begin alike begins so too
+pub BeginsWith-between : (front u b w : List ℕ) → IsBefore (front ++ u) b → IsBefore b (front ++ w) → BeginsWith front b
+BeginsWith-between [] u b w after before = (b, refl)
+BeginsWith-between (x ∷ front) u [] w after before = cc
+BeginsWith-between (x ∷ front) u (y ∷ b) w after before =
+    elim (cases_order x y) [
+        inl same ↦
+            let after_rest = sym (ap (λ o. ordering_then o (path_cmp (front ++ u) b)) (nat_cmp-equal x y same)) ∙ after in
+            let before_rest = sym (ap (λ o. ordering_then o (path_cmp b (front ++ w))) (nat_cmp-equal y x (sym same))) ∙ before in
+            let begins = BeginsWith-between front u b w after_rest before_rest in
+            (begins.0, ap (λ n. n ∷ (front ++ begins.0)) same ∙ ap (λ t. y ∷ t) begins.1)
+      | inr (inl below) ↦
+            let greater = ap (λ o. ordering_then o (path_cmp b (front ++ w))) (nat_cmp-greater y x below) in cc
+      | inr (inr above) ↦
+            let greater = ap (λ o. ordering_then o (path_cmp (front ++ u) b)) (nat_cmp-greater x y above) in cc
+    ]
+
+-- the same of any two lists that begin alike
+pub subtree_together : (front a b c : List ℕ) → BeginsWith front a → BeginsWith front c → IsBefore a b → IsBefore b c → BeginsWith front b
+subtree_together front a b c (u, u_is) (w, w_is) after before =
+    BeginsWith-between front u b w (ap (λ t. path_cmp t b) u_is ∙ after) (ap (λ t. path_cmp b t) w_is ∙ before)
+
+-- paths with a replaced beginning compare as before
+pub path_cmp-relabelled : (old new a b : List ℕ) →
+    path_cmp (relabelled old new (old ++ a)) (relabelled old new (old ++ b)) ≡ path_cmp (old ++ a) (old ++ b)
+path_cmp-relabelled old new a b =
+    ap (λ t. path_cmp t (relabelled old new (old ++ b))) (relabelled-append old new a)
+    ∙ ap (λ t. path_cmp (new ++ a) t) (relabelled-append old new b)
+    ∙ path_cmp-append new a b ∙ sym (path_cmp-append old a b)

@@ -217,3 +217,13 @@ IsPathText-read steps text p is some short =
     let long : length text ≡ 4 * length steps = ap length (sym is) ∙ length-path_text steps in
     let path : IsPath steps = record { some = omega arith; within = omega arith; steps = p } in
     let found = IsPathText-from steps text path is in (found.0, sym found.1)
+
+-- the text of the first k steps has 4 * k characters
+pub length-path_text-take : (path : List ℕ) (k : ℕ) → k ≤ length path → length (path_text (take k path)) ≡ 4 * k
+length-path_text-take path k short =
+    length-path_text (take k path) ∙ ap (λ n. 4 * n) (length-take-le k path short)
+
+-- the text of the first steps with one more
+pub path_text-take_more : (path : List ℕ) (k d : ℕ) → k < length path →
+    path_text (take (k + 1) path) ≡ path_text (take k path) ++ step_text (get_or path k d)
+path_text-take_more path k d below = ap path_text (take_more path k d below) ∙ path_text-push (take k path) (get_or path k d)

@@ -3,6 +3,7 @@
 //! The source is django-treebeard 4.7, MP_Node, with `steplen` 4 and the alphabet of 36 digits.
 #![tactic(auto)]
 
+pub mod laws;
 mod order;
 mod path;
 mod step;

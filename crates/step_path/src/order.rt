@@ -1,7 +1,6 @@
 //! The order of the texts of paths.
 ghost use Rattle.std.specs.Prelude.{◌≡◌, ◌↔◌, IsTrue};
-ghost use Rattle.std.specs.Ordering.{nat_cmp};
-ghost use Rattle.std.specs.Cmp.Lexicographic.{slice_cmp};
+ghost use Rattle.step_path.specs.Order.{path_cmp};
 ghost use Rattle.step_path.specs.Path.{IsPathText, BeginsWith, steps_of};
 
 use std::cmp::Ordering;
@@ -12,7 +11,7 @@ use std::cmp::Ordering;
 pub fn compare_texts(a: &[u8], b: &[u8]) -> Ordering
     requires first { IsPathText a.now }
     requires second { IsPathText b.now }
-    ensures { result ≡ slice_cmp nat_cmp (steps_of a.now) (steps_of b.now) }
+    ensures { result ≡ path_cmp (steps_of a.now) (steps_of b.now) }
 {
     a.cmp(b)
 }

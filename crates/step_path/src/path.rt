@@ -1,5 +1,5 @@
 //! Paths, lists of 1 to 63 steps from the root down to a page.
-ghost use Rattle.std.specs.Prelude.{◌≡◌, ℕ, ◌-◌, ◌<◌, ◌≤◌, ◌↔◌, [], ◌∷◌, ◌++◌, length, take, IsTrue, IsSome, IfSome, slice_get};
+ghost use Rattle.std.specs.Prelude.{◌≡◌, ℕ, ◌-◌, ◌<◌, ◌≤◌, ◌↔◌, [], ◌∷◌, ◌++◌, length, take, IsTrue, IfSome, slice_get};
 ghost use Rattle.std.specs.Option.{SomeIff};
 ghost use Rattle.step_path.specs.Path.{IsPath, IsPathText, BeginsWith, path_text, steps_of, relabelled};
 
@@ -117,8 +117,10 @@ impl Path {
     /// exactly where that has more than 63 steps.
     pub fn with_prefix(&self, old: &Path, new: &Path) -> Option<Path>
         requires { BeginsWith old.now self.now }
-        ensures short { IsSome result ↔ (length (relabelled old.now new.now self.now) ≤ MAX_DEPTH) }
-        ensures value { IfSome result (λ path. path ≡ relabelled old.now new.now self.now) }
+        ensures {
+            let moved = relabelled old.now new.now self.now in
+            SomeIff result (length moved ≤ MAX_DEPTH) moved
+        }
     {
         let rest = &self.steps[old.steps.len()..];
         let mut steps = copied(&new.steps);

@@ -132,7 +132,8 @@ impl Path {
 
     /// The text, the four characters of each step from the root on. It takes no memory.
     pub fn text(&self) -> ArrayVec<u8, MAX_TEXT>
-        ensures { result.items ≡ path_text self.now }
+        ensures value { result.items ≡ path_text self.now }
+        ensures path { IsPathText result.items }
     {
         let mut text = ArrayVec::new();
         let numbers = self.steps.as_slice();

@@ -1,92 +1,86 @@
 //! Worked values of the steps, the paths and their texts.
 ghost use Rattle.std.specs.Prelude.{◌≡◌, ◌<◌};
 
-use crate::{LAST_STEP, MAX_DEPTH, Path, Step, Steps, compare_texts, text_begins};
+use crate::{LAST_STEP, Path, Step, Steps, compare_texts, text_begins};
 use std::cmp::Ordering;
 use std::marker::Brand;
 use std::sync::ledger::{Blank, Ledger};
-use std::test::Fail;
+
+/// The path with these steps below the root.
+fn below_root(numbers: &[u32]) -> Option<Path> {
+    let mut path = Path::root();
+    for number in numbers {
+        path = path.child(Step::new(*number)?)?;
+    }
+    Some(path)
+}
+
+/// The path after a move of the page `old` to `new`, if it begins with `old`.
+fn moved(path: &Path, old: &Path, new: &Path) -> Option<Path> {
+    if old.begins(path) { path.with_prefix(old, new) } else { None }
+}
+
+/// The order of two paths, by their texts.
+fn ordered(first: &Path, second: &Path) -> Ordering {
+    compare_texts(&first.text(), &second.text())
+}
 
 #[test]
-fn steps_are_four_digits(rt: HostRuntime) -> Result<(), Fail> {
+fn steps_are_four_digits(rt: HostRuntime) {
     let rows: [(u32, &str); 4] = [(1, "0001"), (35, "000Z"), (36, "0010"), (LAST_STEP, "ZZZZ")];
     for (number, text) in rows {
-        let step = Step::new(number).ok_or("a step")?;
-        assert_eq!(rt; step.text().as_slice(), text.as_bytes());
-        assert_eq!(rt; Step::read(text.as_bytes()), Some(step));
-        assert_eq!(rt; step.get(), number);
+        let step = Step::new(number);
+        assert_eq!(rt; step.map(Step::get), Some(number));
+        assert_eq!(rt; Step::read(text.as_bytes()), step);
     }
-    let next = Step::first().next().ok_or("a step")?;
-    assert_eq!(rt; next.get(), 2);
-    assert_eq!(rt; Step::new(LAST_STEP).ok_or("a step")?.next(), None);
+    assert_eq!(rt; Step::first().text(), [b'0', b'0', b'0', b'1']);
+}
+
+#[test]
+fn steps_end_at_zzzz(rt: HostRuntime) {
     assert_eq!(rt; Step::new(0), None);
     assert_eq!(rt; Step::new(LAST_STEP + 1), None);
-    Ok(())
+    assert_eq!(rt; Step::first().next(), Step::new(2));
+    assert_eq!(rt; Step::new(LAST_STEP).and_then(Step::next), None);
 }
 
 #[test]
-fn a_child_lies_below_the_root(rt: HostRuntime) -> Result<(), Fail> {
-    let root = Path::root();
-    assert_eq!(rt; root.text().as_slice(), "0001".as_bytes());
-    assert_eq!(rt; root.parent().is_none(), true);
-    let step = Step::new(36).ok_or("a step")?;
-    let child = root.child(step).ok_or("a child")?;
-    assert_eq!(rt; child.text().as_slice(), "00010010".as_bytes());
-    assert_eq!(rt; child.depth(), 2);
-    assert_eq!(rt; child.last(), step);
-    assert_eq!(rt; child.step_at(1), Some(step));
-    assert_eq!(rt; child.step_at(2), None);
-    assert_eq!(rt; root.begins(&child), true);
-    assert_eq!(rt; child.begins(&root), false);
-    let parent = child.parent().ok_or("a parent")?;
-    assert_eq!(rt; parent.text().as_slice(), "0001".as_bytes());
-    let sibling = root.child(Step::first()).ok_or("a child")?;
-    let below = child.child(step).ok_or("a child")?;
-    let moved = below.with_prefix(&child, &sibling).ok_or("a path")?;
-    assert_eq!(rt; moved.text().as_slice(), "000100010010".as_bytes());
-    assert_eq!(rt; moved.copy().text().as_slice(), moved.text().as_slice());
-    Ok(())
-}
-
-#[test]
-fn a_path_of_63_steps_has_no_child(rt: HostRuntime) -> Result<(), Fail> {
-    let mut path = Path::root();
-    for _ in 1..MAX_DEPTH {
-        path = path.child(Step::first()).ok_or("a child")?;
+fn paths_are_read_from_their_texts(rt: HostRuntime) {
+    assert_eq!(rt; Path::read(b"0001"), below_root(&[]));
+    assert_eq!(rt; Path::read(b"00010010"), below_root(&[36]));
+    for text in ["", "000", "0000", "000a", "00010000", "0001000", "000-"] {
+        assert_eq!(rt; Path::read(text.as_bytes()), None, "{text}");
     }
+    assert_eq!(rt; Path::read(&[b'1'; 256]), None);
+}
+
+#[test]
+fn a_path_of_63_steps_has_no_child(rt: HostRuntime) {
+    let path = below_root(&[1; 62]).expect(&rt, "a path");
     assert_eq!(rt; path.depth(), 63);
     assert_eq!(rt; path.text().len(), 252);
-    assert_eq!(rt; path.child(Step::first()).is_none(), true);
-    let read = Path::read(path.text().as_slice()).ok_or("a path")?;
-    assert_eq!(rt; read.depth(), 63);
-    let deeper = path.with_prefix(&Path::root(), &path);
-    assert_eq!(rt; deeper.is_none(), true);
-    Ok(())
+    assert_eq!(rt; path.child(Step::first()), None);
 }
 
 #[test]
-fn texts_that_are_no_paths_are_refused(rt: HostRuntime) {
-    for text in ["", "000", "0000", "000a", "00010000", "0001000", "000-"] {
-        assert_eq!(rt; Path::read(text.as_bytes()).is_none(), true, "{text}");
-    }
-    assert_eq!(rt; Path::read(&[b'1'; 256]).is_none(), true);
-}
-
-#[test]
-fn texts_compare_depth_first(rt: HostRuntime) -> Result<(), Fail> {
+fn a_parent_begins_its_child(rt: HostRuntime) {
     let root = Path::root();
-    let child = root.child(Step::new(10).ok_or("a step")?).ok_or("a child")?;
-    let grandchild = child.child(Step::first()).ok_or("a child")?;
-    let later = root.child(Step::new(36).ok_or("a step")?).ok_or("a child")?;
-    let texts = [root.text(), child.text(), grandchild.text(), later.text()];
-    let [root, child, grandchild, later] = &texts;
-    assert_eq!(rt; compare_texts(root, child) == Ordering::Less, true);
-    assert_eq!(rt; compare_texts(grandchild, later) == Ordering::Less, true);
-    assert_eq!(rt; compare_texts(later, child) == Ordering::Greater, true);
-    assert_eq!(rt; compare_texts(child, child) == Ordering::Equal, true);
-    assert_eq!(rt; text_begins(child, grandchild), true);
-    assert_eq!(rt; text_begins(child, later), false);
-    Ok(())
+    let child = below_root(&[36]).expect(&rt, "a path");
+    assert_eq!(rt; child.parent(), Some(root.copy()));
+    assert_eq!(rt; root.parent(), None);
+    assert_eq!(rt; child.last().get(), 36);
+    assert_eq!(rt; child.step_at(0), Some(Step::first()));
+    assert_eq!(rt; ordered(&root, &child) == Ordering::Less, true);
+    assert_eq!(rt; text_begins(&root.text(), &child.text()), true);
+}
+
+#[test]
+fn a_move_replaces_the_beginning(rt: HostRuntime) {
+    let path = below_root(&[36, 7]).expect(&rt, "a path");
+    let old = below_root(&[36]).expect(&rt, "a path");
+    let new = below_root(&[1, 2]).expect(&rt, "a path");
+    assert_eq!(rt; moved(&path, &old, &new), below_root(&[1, 2, 7]));
+    assert_eq!(rt; moved(&path, &new, &old), None);
 }
 
 /// Counts two steps over a new ledger.

@@ -1,10 +1,10 @@
 -- Each turn adds the four characters of the next step, for which there is room.
-use Rattle.std.proofs.Common.{◌≡◌, ℕ, ◌+◌, ◌*◌, ◌<◌, ◌≤◌, List, ◌++◌, length, take, get_or, ap, sym, ◌∙◌, rules, arith}
+use Rattle.std.proofs.Common.{◌≡◌, ℕ, ◌+◌, ◌*◌, ◌<◌, ◌≤◌, List, ◌++◌, length, take, get_or, ap, sym, ◌∙◌, rules, arith, subst}
 use Rattle.std.proofs.lemmas.List.{take_all}
 use Rattle.step_path.specs.Step.{step_text}
-use Rattle.step_path.specs.Path.{path_text}
+use Rattle.step_path.specs.Path.{IsPathText, path_text}
 use Rattle.step_path.proofs.StepLemmas.{length-step_text}
-use Rattle.step_path.proofs.PathLemmas.{AreSteps-at, path_text-take_more, length-path_text-take}
+use Rattle.step_path.proofs.PathLemmas.{AreSteps-at, IsPathText-path_text, path_text-take_more, length-path_text-take}
 use Rattle.step_path.proofs.path.Path.text.Goals as goal
 
 pub loop-number-init : goal.loop-number-init
@@ -32,3 +32,12 @@ loop-number-preserved c =
     ∙ ap (λ (t : List ℕ). t ++ c.text.result) so_far
     ∙ ap (λ (t : List ℕ). path_text (take k numbers) ++ t) added
     ∙ sym (path_text-take_more numbers k 0 c.loop-number-test.true)
+
+pub returns-clause-path : goal.returns-clause-path
+returns-clause-path c =
+    let numbers : List ℕ = c.as_slice-numbers.result.now in
+    let all : take c.loop-number.number-index numbers ≡ numbers =
+        take_all c.loop-number.number-index numbers c.loop-number-test.false in
+    subst IsPathText
+        (sym (c.loop-number.invariant ∙ ap path_text all ∙ ap path_text c.as_slice-numbers.ensures.value))
+        (IsPathText-path_text c.self.inside.steps.items c.self.invariant)

@@ -4,3 +4,4 @@ pub use Rattle.site_ids.specs.NoMemory
 pub use Rattle.site_ids.specs.PathText
 pub use Rattle.site_ids.specs.Slug
 pub mod Content
+pub mod Refusal

@@ -47,21 +47,24 @@ impl Content {
 
     /// The title.
     pub fn title(&self) -> &Text
-        ensures { result.now ≡ self.now.title }
+        ensures value { result.now ≡ self.now.title }
+        ensures fits { FitsLimits self.now }
     {
         &self.title
     }
 
     /// The blocks.
     pub fn blocks(&self) -> &Blocks
-        ensures { result.now ≡ self.now.blocks }
+        ensures value { result.now ≡ self.now.blocks }
+        ensures fits { FitsLimits self.now }
     {
         &self.blocks
     }
 
     /// The length of the byte form, at most 65,536.
     pub fn form_length(&self) -> u64
-        ensures { result ≡ length (content_form self.now) }
+        ensures value { result ≡ length (content_form self.now) }
+        ensures fits { FitsLimits self.now }
     {
         self.form_bytes as u64
     }

@@ -4,4 +4,5 @@ pub use Rattle.site_ids.specs.NoMemory
 pub use Rattle.site_ids.specs.PathText
 pub use Rattle.site_ids.specs.Slug
 pub mod Content
+pub mod Equal
 pub mod Refusal

@@ -31,6 +31,31 @@ impl Model for Content {
         × (content.form_bytes ≡ length (content_form (content_of content.title content.blocks))) };
 }
 
+impl PartialEq for Content {
+    ghost use Rattle.std.specs.Cmp.{partial_equiv_from_equiv, decided};
+    ghost use Rattle.std.specs.Prelude.{◌≡◌, ◌↔◌, IsTrue};
+    ghost use Rattle.site_types.specs.Equal.{content_eq, content_eq_decides};
+
+    ghost eq = { content_eq };
+
+    ghost laws = { partial_equiv_from_equiv (decided content_eq content_eq_decides) };
+
+    #[tactic(auto, using(crate::specs::Equal::content_eq_decides))]
+    fn eq(&self, other: &Self) -> bool
+        ensures value { result ≡ content_eq self.now other.now }
+        ensures same { IsTrue result ↔ (self.now ≡ other.now) }
+    {
+        self.title == other.title && self.blocks == other.blocks
+    }
+}
+
+impl Eq for Content {
+    ghost use Rattle.std.specs.Cmp.{decided};
+    ghost use Rattle.site_types.specs.Equal.{content_eq, content_eq_decides};
+
+    ghost laws = { decided content_eq content_eq_decides };
+}
+
 impl Content {
     /// The content of this title and these blocks, or `None` exactly where they break a limit;
     /// they are then dropped.

@@ -1,5 +1,7 @@
 //! Texts.
-ghost use Rattle.std.specs.Prelude.{◌≡◌, ◌==◌, ℕ, List, length, IfOk, IsUtf8};
+ghost use Rattle.std.specs.Prelude.{◌≡◌, ◌==◌, ◌↔◌, ℕ, List, length, nat_eq, IsTrue, IfOk, IsUtf8};
+ghost use Rattle.std.specs.Cmp.{partial_equiv_from_equiv};
+ghost use Rattle.std.specs.Cmp.Lexicographic.{pointwise, nat_list_eq_equiv};
 ghost use Rattle.std.specs.String.{string_bytes};
 
 use crate::NoMemory;
@@ -16,6 +18,24 @@ impl Model for Text {
     ghost Value = { List ℕ };
 
     ghost view = { λ text. string_bytes text.string };
+}
+
+impl PartialEq for Text {
+    ghost eq = { λ text other. pointwise nat_eq text other };
+
+    ghost laws = { partial_equiv_from_equiv nat_list_eq_equiv };
+
+    #[tactic(auto, using(crate::proofs::Equal::bytes_equal))]
+    fn eq(&self, other: &Self) -> bool
+        ensures value { result ≡ pointwise nat_eq self.now other.now }
+        ensures same { IsTrue result ↔ (self.now ≡ other.now) }
+    {
+        self.as_bytes() == other.as_bytes()
+    }
+}
+
+impl Eq for Text {
+    ghost laws = { nat_list_eq_equiv };
 }
 
 impl Text {

@@ -1,5 +1,7 @@
 //! Lists of texts.
-ghost use Rattle.std.specs.Prelude.{◌≡◌, ◌==◌, ℕ, List, length, IfOk};
+ghost use Rattle.std.specs.Prelude.{◌≡◌, ◌==◌, ◌↔◌, ℕ, List, length, nat_eq, IsTrue, IfOk};
+ghost use Rattle.std.specs.Cmp.{partial_equiv_from_equiv};
+ghost use Rattle.std.specs.Cmp.Lexicographic.{pointwise, lists_equiv, nat_list_eq_equiv};
 
 use crate::{NoMemory, Text};
 use std::alloc::Global;
@@ -15,6 +17,23 @@ impl Model for Texts {
     ghost Value = { List (List ℕ) };
 
     ghost view = { λ list. list.texts.items };
+}
+
+impl PartialEq for Texts {
+    ghost eq = { λ texts others. pointwise (pointwise nat_eq) texts others };
+
+    ghost laws = { partial_equiv_from_equiv (lists_equiv nat_list_eq_equiv) };
+
+    fn eq(&self, other: &Self) -> bool
+        ensures value { result ≡ pointwise (pointwise nat_eq) self.now other.now }
+        ensures same { IsTrue result ↔ (self.now ≡ other.now) }
+    {
+        self.as_slice() == other.as_slice()
+    }
+}
+
+impl Eq for Texts {
+    ghost laws = { lists_equiv nat_list_eq_equiv };
 }
 
 impl Texts {

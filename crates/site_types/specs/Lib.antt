@@ -5,3 +5,5 @@ pub use Rattle.site_ids.specs.PathText
 pub use Rattle.site_ids.specs.Slug
 pub mod Content
 pub mod RootBody
+pub mod Equal
+pub mod Refusal

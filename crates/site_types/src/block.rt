@@ -1,7 +1,8 @@
 //! Blocks of contents.
-ghost use Rattle.std.specs.Prelude.{◌≡◌, ◌==◌, length};
+ghost use Rattle.std.specs.Prelude.{◌≡◌, ◌==◌, length, IfOk};
 
-use site_ids::{PageId, Text, Texts};
+use site_ids::{NoMemory, PageId, Text, Texts};
+use std::alloc::Global;
 use std::marker::Model;
 
 /// One block of a content.
@@ -30,6 +31,76 @@ impl Model for Blocks {
     ghost Value = { List Block };
 
     ghost view = { λ list. list.blocks.items };
+}
+
+impl PartialEq for Block {
+    ghost use Rattle.std.specs.Cmp.{partial_equiv_from_equiv, decided};
+    ghost use Rattle.std.specs.Prelude.{◌≡◌, ◌↔◌, IsTrue};
+    ghost use Rattle.site_types.specs.Equal.{block_eq, block_eq_decides};
+
+    ghost eq = { block_eq };
+
+    ghost laws = { partial_equiv_from_equiv (decided block_eq block_eq_decides) };
+
+    #[tactic(auto, using(crate::specs::Equal::block_eq_decides))]
+    fn eq(&self, other: &Self) -> bool
+        ensures value { result ≡ block_eq self.now other.now }
+        ensures same { IsTrue result ↔ (self.now ≡ other.now) }
+    {
+        match (self, other) {
+            (Block::Heading(text), Block::Heading(other)) => text == other,
+            (Block::Paragraph(text), Block::Paragraph(other)) => text == other,
+            (Block::Items(texts), Block::Items(others)) => texts == others,
+            (Block::Page(page), Block::Page(other)) => page == other,
+            _ => false,
+        }
+    }
+}
+
+impl Eq for Block {
+    ghost use Rattle.std.specs.Cmp.{decided};
+    ghost use Rattle.site_types.specs.Equal.{block_eq, block_eq_decides};
+
+    ghost laws = { decided block_eq block_eq_decides };
+}
+
+impl Block {
+    /// An equal block on memory of its own.
+    pub fn copy(&self, alloc: Global) -> Result<Self, NoMemory>
+        ensures { IfOk result (λ copy. copy ≡ self.now) }
+    {
+        match self {
+            Block::Heading(text) => Ok(Block::Heading(text.copy(alloc)?)),
+            Block::Paragraph(text) => Ok(Block::Paragraph(text.copy(alloc)?)),
+            Block::Items(texts) => Ok(Block::Items(texts.copy(alloc)?)),
+            Block::Page(page) => Ok(Block::Page(*page)),
+        }
+    }
+}
+
+impl PartialEq for Blocks {
+    ghost use Rattle.std.specs.Cmp.{partial_equiv_from_equiv, decided};
+    ghost use Rattle.std.specs.Prelude.{◌≡◌, ◌↔◌, IsTrue};
+    ghost use Rattle.site_types.specs.Equal.{blocks_eq, blocks_eq_decides};
+
+    ghost eq = { blocks_eq };
+
+    ghost laws = { partial_equiv_from_equiv (decided blocks_eq blocks_eq_decides) };
+
+    #[tactic(auto, using(crate::specs::Equal::blocks_eq_decides))]
+    fn eq(&self, other: &Self) -> bool
+        ensures value { result ≡ blocks_eq self.now other.now }
+        ensures same { IsTrue result ↔ (self.now ≡ other.now) }
+    {
+        self.as_slice() == other.as_slice()
+    }
+}
+
+impl Eq for Blocks {
+    ghost use Rattle.std.specs.Cmp.{decided};
+    ghost use Rattle.site_types.specs.Equal.{blocks_eq, blocks_eq_decides};
+
+    ghost laws = { decided blocks_eq blocks_eq_decides };
 }
 
 impl Blocks {
@@ -67,5 +138,15 @@ impl Blocks {
         ensures { result ≡ (length self.now == 0) }
     {
         self.blocks.is_empty()
+    }
+    /// An equal list on memory of its own.
+    pub fn copy(&self, alloc: Global) -> Result<Self, NoMemory>
+        ensures { IfOk result (λ copy. copy ≡ self.now) }
+    {
+        let mut blocks = Vec::with_capacity(alloc, self.blocks.len())?;
+        for block in &self.blocks {
+            blocks.push(block.copy(alloc)?)?;
+        }
+        Ok(Blocks { blocks })
     }
 }

@@ -1,0 +1,58 @@
+-- When blocks and contents compare equal.
+use Rattle.std.specs.Prelude.{◌≡◌, ℕ, Bool, true, false, ◌&&◌, List, nat_eq}
+use Rattle.std.specs.Bool.{Decides}
+use Rattle.std.specs.Cmp.{unsigned_Decides, first_so, second_so}
+use Rattle.std.specs.Cmp.Lexicographic.{pointwise, pointwise_decides, bytes_decides}
+use Rattle.std.proofs.Common.{ap}
+use Rattle.site_types.specs.Content.{ContentValue, content_of}
+use Rattle.site_types.specs.declared.block.Block.{Block}
+use Rattle.site_types.specs.declared.block.Block.TheVariants.{Heading, Paragraph, Items, Page}
+
+-- whether two blocks are the same
+abbrev pub block_eq : Block → Block → Bool
+block_eq (Heading text) (Heading other) = pointwise nat_eq text other
+block_eq (Paragraph text) (Paragraph other) = pointwise nat_eq text other
+block_eq (Items texts) (Items others) = pointwise (pointwise nat_eq) texts others
+block_eq (Page page) (Page other) = nat_eq page other
+block_eq _ _ = false
+
+-- that test is true exactly of the same block
+pub block_eq_decides : (block other : Block) → Decides (block_eq block other) (block ≡ other)
+block_eq_decides (Heading a) (Heading b) =
+    (λ e. ap Heading ((bytes_decides a b).0 e), λ e. (bytes_decides a b).1 cc)
+block_eq_decides (Paragraph a) (Paragraph b) =
+    (λ e. ap Paragraph ((bytes_decides a b).0 e), λ e. (bytes_decides a b).1 cc)
+block_eq_decides (Items a) (Items b) =
+    (λ e. ap Items ((pointwise_decides bytes_decides a b).0 e), λ e. (pointwise_decides bytes_decides a b).1 cc)
+block_eq_decides (Page a) (Page b) =
+    (λ e. ap Page ((unsigned_Decides a b).0 e), λ e. (unsigned_Decides a b).1 cc)
+block_eq_decides _ _ = (λ e. cc, λ e. cc)
+
+-- whether two lists of blocks are the same
+abbrev pub blocks_eq : List Block → List Block → Bool
+blocks_eq blocks others = pointwise block_eq blocks others
+
+-- that test is true exactly of the same list
+pub blocks_eq_decides : (blocks others : List Block) → Decides (blocks_eq blocks others) (blocks ≡ others)
+blocks_eq_decides blocks others = pointwise_decides block_eq_decides blocks others
+
+-- whether two contents are the same
+abbrev pub content_eq : ContentValue → ContentValue → Bool
+content_eq content other =
+    pointwise nat_eq content.title other.title && blocks_eq content.blocks other.blocks
+
+-- that test is true exactly of the same content
+pub content_eq_decides : (content other : ContentValue) → Decides (content_eq content other) (content ≡ other)
+content_eq_decides content other = (
+  λ e.
+      let titles = (bytes_decides content.title other.title).0 (first_so (pointwise nat_eq content.title other.title) (blocks_eq content.blocks other.blocks) e) in
+      let blocks = (blocks_eq_decides content.blocks other.blocks).0 (second_so (pointwise nat_eq content.title other.title) (blocks_eq content.blocks other.blocks) e) in
+      λ i. content_of (titles i) (blocks i),
+  λ e. by content.title other.title content.blocks other.blocks (ap (λ c. c.title) e) (ap (λ c. c.blocks) e),
+)
+  where
+    both : (a b : Bool) → a ≡ true → b ≡ true → (a && b) ≡ true
+    both a b p q = cc
+
+    by : (a b : List ℕ) (xs ys : List Block) → a ≡ b → xs ≡ ys → (pointwise nat_eq a b && blocks_eq xs ys) ≡ true
+    by a b xs ys p q = both _ _ ((bytes_decides a b).1 p) ((blocks_eq_decides xs ys).1 q)

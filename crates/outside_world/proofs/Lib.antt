@@ -1,0 +1,3 @@
+pub mod FaultLemmas
+pub mod SourceLemmas
+pub mod SinkLemmas

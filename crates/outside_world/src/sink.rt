@@ -1,0 +1,46 @@
+//! Sinks of bytes: a file that is written, a connection's output, a list in memory.
+ghost use Rattle.std.specs.Prelude.{◌≡◌, ℕ, ◌<◌, ◌≤◌, List, Option, length, take, is_ok, IfOk, OnErr};
+ghost use Rattle.outside_world.specs.Faults.{Rose};
+ghost use Rattle.outside_world.specs.Sink.{with_back, Appends, AppendsPart};
+
+use crate::fault::Failed;
+
+/// Something that takes bytes one after another.
+pub trait Sink {
+    // The bytes that it took, where the sink tells them.
+    ghost taken: { Self → Option (List ℕ) };
+
+    // How often it failed, as a number of 64 bits.
+    ghost faults: { Self → ℕ };
+
+    /// Takes the first bytes of the piece, and answers how many: at least 1 of a piece with bytes.
+    ///
+    /// Where it fails it has taken a first part of the piece, which may be empty.
+    fn write(&mut self, piece: &[u8]) -> Result<usize, Failed>
+        ensures fits { IfOk result (λ n. n ≤ length piece.now) }
+        ensures moves_some { IfOk result (λ n. 0 < length piece.now → 0 < n) }
+        ensures taken { IfOk result
+            (λ n. taken self.new ≡ with_back (taken self.old) (take n piece.now)) }
+        ensures part { OnErr result (AppendsPart (taken self.old) (taken self.new) piece.now) }
+        ensures later { faults self.old ≤ faults self.new }
+        ensures failed { OnErr result (Rose (faults self.old) (faults self.new)) };
+}
+
+/// Writes the whole piece, by as many writes as it takes.
+///
+/// Whatever the answer, a first part of the piece was appended and nothing else, and all of it at
+/// `Ok`.
+pub fn write_all<K: Sink>(sink: &mut K, piece: &[u8]) -> Result<(), Failed>
+    ensures part { Appends (K.taken sink.old) (K.taken sink.new) piece.now (is_ok result) }
+    ensures later { K.faults sink.old ≤ K.faults sink.new }
+    ensures failed { OnErr result (Rose (K.faults sink.old) (K.faults sink.new)) }
+{
+    let mut written = 0;
+    while written < piece.len() {
+        match sink.write(&piece[written..]) {
+            Ok(count) => written += count,
+            Err(fault) => return Err(fault),
+        }
+    }
+    Ok(())
+}

@@ -38,6 +38,5 @@ AppendsPart_more before then after piece w fits first part = record {
   within =
       let within = part.within in
       omega (arith, length-take {A = ℕ}, length-drop {A = ℕ});
-  whole = λ done. cc;
   appended = with_back_more before then after piece w part.count first part.appended;
 }

@@ -1,7 +1,7 @@
 //! Sinks of bytes: a file that is written, a connection's output, a list in memory.
-ghost use Rattle.std.specs.Prelude.{◌≡◌, ℕ, ◌<◌, ◌≤◌, List, Option, length, take, is_ok, IfOk, OnErr};
+ghost use Rattle.std.specs.Prelude.{◌≡◌, ℕ, ◌<◌, ◌≤◌, List, Option, length, take, IfOk, OnOk, OnErr};
 ghost use Rattle.outside_world.specs.Faults.{Rose};
-ghost use Rattle.outside_world.specs.Sink.{with_back, Appends, AppendsPart};
+ghost use Rattle.outside_world.specs.Sink.{with_back, AppendsPart};
 
 use crate::fault::Failed;
 
@@ -10,7 +10,7 @@ pub trait Sink {
     // The bytes that it took, where the sink tells them.
     ghost taken: { Self → Option (List ℕ) };
 
-    // How often it failed, as a number of 64 bits.
+    // How often it failed: a number of 64 bits that never falls.
     ghost faults: { Self → ℕ };
 
     /// Takes the first bytes of the piece, and answers how many: at least 1 of a piece with bytes.
@@ -28,10 +28,11 @@ pub trait Sink {
 
 /// Writes the whole piece, by as many writes as it takes.
 ///
-/// Whatever the answer, a first part of the piece was appended and nothing else, and all of it at
-/// `Ok`.
+/// Whatever the answer, a first part of the piece was appended and nothing else, and at `Ok` the
+/// whole of it.
 pub fn write_all<K: Sink>(sink: &mut K, piece: &[u8]) -> Result<(), Failed>
-    ensures part { Appends (K.taken sink.old) (K.taken sink.new) piece.now (is_ok result) }
+    ensures part { AppendsPart (K.taken sink.old) (K.taken sink.new) piece.now }
+    ensures whole { OnOk result (K.taken sink.new ≡ with_back (K.taken sink.old) piece.now) }
     ensures later { K.faults sink.old ≤ K.faults sink.new }
     ensures failed { OnErr result (Rose (K.faults sink.old) (K.faults sink.new)) }
 {

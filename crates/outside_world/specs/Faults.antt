@@ -1,13 +1,13 @@
 -- Counts of faults: numbers of 64 bits that never fall, and that stand still at their type's end.
-use Rattle.std.specs.Prelude.{ℕ, ◌+◌, ◌-◌, ◌^◌, ◌<◌, ◌≤◌, ◌⊎◌, min}
+use Rattle.std.specs.Prelude.{ℕ, ◌+◌, ◌-◌, ◌^◌, ◌<◌, ◌≤◌, ◌⊎◌, nat_lt, if◌then◌else◌}
 
 -- the greatest count, at which a count stands still
 abbrev pub last_count : ℕ
 last_count = 2 ^ 64 - 1
 
--- one more, up to the greatest count
+-- one more, or the same at the greatest count
 abbrev pub raised : ℕ → ℕ
-raised count = min (count + 1) last_count
+raised count = if nat_lt count last_count then count + 1 else count
 
 -- the count rose, or stood at its end before and after
 abbrev pub Rose : ℕ → ℕ → Type 0

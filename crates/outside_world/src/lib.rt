@@ -1,12 +1,19 @@
 //! What a program has to do with outside of itself: sources and sinks of bytes, and clocks.
 #![tactic(auto)]
 
+mod calls;
 mod clock;
 mod fault;
+mod memory_clock;
+mod memory_sink;
+mod memory_source;
 mod sink;
 mod source;
 
 pub use clock::{Clock, LAST_MOMENT};
 pub use fault::Failed;
+pub use memory_clock::MemoryClock;
+pub use memory_sink::MemorySink;
+pub use memory_source::MemorySource;
 pub use sink::{Sink, write_all};
 pub use source::Source;

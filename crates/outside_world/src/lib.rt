@@ -7,6 +7,8 @@ mod fault;
 mod memory_clock;
 mod memory_sink;
 mod memory_source;
+mod pieces_source;
+mod real;
 mod sink;
 mod source;
 
@@ -15,5 +17,7 @@ pub use fault::Failed;
 pub use memory_clock::MemoryClock;
 pub use memory_sink::MemorySink;
 pub use memory_source::MemorySource;
+pub use pieces_source::PiecesSource;
+pub use real::{StreamSink, StreamSource, SystemClock};
 pub use sink::{Sink, write_all};
 pub use source::Source;

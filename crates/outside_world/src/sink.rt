@@ -18,7 +18,7 @@ pub trait Sink {
     /// Where it fails it has taken a first part of the piece, which may be empty.
     fn write(&mut self, piece: &[u8]) -> Result<usize, Failed>
         ensures fits { IfOk result (λ n. n ≤ length piece.now) }
-        ensures moves_some { IfOk result (λ n. 0 < length piece.now → 0 < n) }
+        ensures takes_some { IfOk result (λ n. 0 < length piece.now → 0 < n) }
         ensures taken { IfOk result
             (λ n. taken self.new ≡ with_back (taken self.old) (take n piece.now)) }
         ensures part { OnErr result (AppendsPart (taken self.old) (taken self.new) piece.now) }

@@ -21,3 +21,6 @@ pub use pieces_source::PiecesSource;
 pub use real::{StreamSink, StreamSource, SystemClock};
 pub use sink::{Sink, write_all};
 pub use source::Source;
+
+#[cfg(test)]
+mod tests;

@@ -17,13 +17,20 @@ pub struct MemoryClock {
 impl Clock for MemoryClock {
     ghost coming = { λ c k. Some (min (c.next + k * c.step) LAST_MOMENT) };
 
-    fn now(&mut self) -> u64 {
+    fn now(&mut self) -> u64
+        ensures given { result ≡ min self.old.next LAST_MOMENT }
+        ensures next { self.new ≡ record self.old {
+          next = min (self.old.next + self.old.step) u64.MAX;
+        } }
+    {
         let moment = self.next.min(LAST_MOMENT);
         self.next = self.next.saturating_add(self.step);
         moment
     }
 
-    fn twin(&self) -> Self {
+    fn twin(&self) -> Self
+        ensures { result ≡ self.now }
+    {
         *self
     }
 }

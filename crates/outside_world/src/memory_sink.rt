@@ -55,7 +55,9 @@ impl Sink for MemorySink {
         ensures listed { FailsNext self.old.calls → IsErr result }
         ensures whole { IfOk result (λ n. n ≡ length piece.now) }
         ensures taken { OnOk result (self.new ≡ record {
-            bytes = self.old.bytes ++ piece.now; calls = counted self.old.calls }) }
+          bytes = self.old.bytes ++ piece.now;
+          calls = counted self.old.calls;
+        }) }
         ensures kept { OnErr result (self.new ≡ record self.old { calls = failed self.old.calls }) }
     {
         if self.calls.begin() {

@@ -63,7 +63,9 @@ impl Source for PiecesSource {
             (λ n. room.new ≡ take n self.old.feed.left ++ drop n room.old) }
         ensures pieces { self.new.pieces ≡ next_pieces self.old.pieces }
         ensures left { IfOk result (λ n. self.new.feed ≡ record {
-            left = drop n self.old.feed.left; calls = counted self.old.feed.calls }) }
+          left = drop n self.old.feed.left;
+          calls = counted self.old.feed.calls;
+        }) }
         ensures kept { OnErr result
             (self.new.feed ≡ record self.old.feed { calls = failed self.old.feed.calls }) }
         ensures room { OnErr result (room.new ≡ room.old) }

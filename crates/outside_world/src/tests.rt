@@ -5,10 +5,9 @@ ghost use Rattle.outside_world.specs.Source.{with_front, IsSpent};
 ghost use Rattle.outside_world.specs.Sink.{with_back};
 
 use super::*;
-use std::io;
-use std::rt;
 use std::test::Fail;
 use std::time::Duration;
+use std::{io, rt};
 
 // Writes what the source has left to the sink, by at most 1,000 reads of 8 bytes: whether that was
 // all. What it moved left the source and came into the sink.
@@ -178,6 +177,9 @@ fn the_clock_of_the_system_gives_seconds_since_1970(rt: HostRuntime) {
 
 #[test]
 fn a_fault_has_a_text(rt: HostRuntime) -> Result<(), Fail> {
-    assert_eq!(rt; format!(in rt.alloc(); "{Failed}")?.as_str(), "the outside failed");
+    assert_eq!(rt;
+        format!(in rt.alloc(); "{Failed}")?.as_str(),
+        "the outside failed"
+    );
     Ok(())
 }

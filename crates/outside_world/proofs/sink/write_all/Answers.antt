@@ -1,4 +1,4 @@
-use Rattle.std.proofs.Common.{arith, rules, length-take, length-drop, ℕ}
+use Rattle.std.proofs.Common.{arith, length-take, length-drop, ℕ}
 use Rattle.outside_world.proofs.SinkLemmas.{with_back_more, AppendsPart_more}
 use Rattle.outside_world.proofs.sink.write_all.Goals as goal
 

@@ -1,6 +1,7 @@
 //! The page tree server.
 #![tactic(auto)]
 
+mod answer;
 mod form;
 
 fn main() {}

@@ -3,5 +3,6 @@
 
 mod answer;
 mod form;
+mod held;
 
 fn main() {}

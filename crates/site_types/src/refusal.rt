@@ -83,8 +83,8 @@ impl NameKind {
 
 impl Refusal {
     /// The refusal's number on the wire, from 1 to 22.
-    pub fn number(self) -> u8
-        ensures { result ≡ refusal_number self }
+    pub fn number(&self) -> u8
+        ensures { result ≡ refusal_number self.now }
     {
         match self {
             Refusal::NoPage(_) => 1,
@@ -113,8 +113,8 @@ impl Refusal {
     }
 
     /// The refusal's name on the wire: that of its variant.
-    pub fn name(self) -> &'static str
-        ensures { result.now ≡ refusal_name self }
+    pub fn name(&self) -> &'static str
+        ensures { result.now ≡ refusal_name self.now }
     {
         match self {
             Refusal::NoPage(_) => "NoPage",
@@ -144,12 +144,12 @@ impl Refusal {
 
     /// The value that the refusal carries, if it carries one: the number of a page, user or task,
     /// of a need, or of a kind of name.
-    pub fn carried(self) -> Option<u32>
-        ensures { result ≡ refusal_carried self }
+    pub fn carried(&self) -> Option<u32>
+        ensures { result ≡ refusal_carried self.now }
     {
         match self {
             Refusal::NoPage(page) | Refusal::SlugTaken(page) => Some(page.get()),
-            Refusal::Denied(need) => Some(u32::from(need)),
+            Refusal::Denied(need) => Some(u32::from(*need)),
             Refusal::Locked(user) | Refusal::DeskTaken(user) => Some(user.get()),
             Refusal::InModeration(task) => Some(task.get()),
             Refusal::NoName(kind) => Some(u32::from(kind.number())),

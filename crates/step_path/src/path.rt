@@ -117,10 +117,8 @@ impl Path {
     /// exactly where that has more than 63 steps.
     pub fn with_prefix(&self, old: &Path, new: &Path) -> Option<Path>
         requires { BeginsWith old.now self.now }
-        ensures {
-            let moved = relabelled old.now new.now self.now in
-            SomeIff result (length moved ≤ MAX_DEPTH) moved
-        }
+        ensures { let moved = relabelled old.now new.now self.now in
+            SomeIff result (length moved ≤ MAX_DEPTH) moved }
     {
         let rest = &self.steps[old.steps.len()..];
         let mut steps = copied(&new.steps);

@@ -14,6 +14,7 @@ invariant_of-result c =
 pub returns-clause-child : goal.returns-clause-child
 returns-clause-child c =
     let path = c.self.inside.steps.items in
-    let n = c.len-depth.result - 1 in
-    (get_or path n 0,
-    rw (← c.self.view_is, c.copied.ensures, c.deref.ensures.0) (front_and_last path n 0 (omega (arith, c.self.invariant.some))))
+    let n = c.len-depth.result - 1 in (
+      get_or path n 0,
+      rw (← c.self.view_is, c.copied.ensures, c.deref.ensures.0) (front_and_last path n 0 (omega (arith, c.self.invariant.some))),
+    )

@@ -1,6 +1,6 @@
 -- Texts of paths compare as the paths do: the alphabet rises with its digits, four digits in base
 -- 36 compare as their number, and lists of blocks of one length compare block by block.
-use Rattle.std.proofs.Common.{◌≡◌, ℕ, ◌+◌, ◌-◌, ◌*◌, ◌/◌, ◌%◌, ◌<◌, ◌≤◌, List, [], ◌∷◌, ◌++◌, refl, ap, sym, ◌∙◌, subst, arith, inl, inr}
+use Rattle.std.proofs.Common.{◌≡◌, ℕ, ◌+◌, ◌*◌, ◌/◌, ◌%◌, ◌<◌, List, [], ◌∷◌, ◌++◌, refl, ap, sym, ◌∙◌, arith, inl, inr}
 use Rattle.std.specs.declared.cmp.Ordering.{Ordering}
 use Rattle.std.specs.declared.cmp.Ordering.TheVariants.{Less, Equal, Greater}
 use Rattle.std.specs.Ordering.{nat_cmp, ordering_then}
@@ -11,7 +11,7 @@ use Rattle.step_path.specs.Step.{IsStep, digit_of, step_text}
 use Rattle.step_path.specs.Path.{AreSteps, IsPathText, BeginsWith, path_text, steps_of, relabelled}
 use Rattle.step_path.specs.Order.{path_cmp, IsBefore}
 use Rattle.step_path.proofs.PathLemmas.{relabelled-append}
-use Rattle.step_path.proofs.StepLemmas.{digits_of_step, highest_digit}
+use Rattle.step_path.proofs.StepLemmas.{highest_digit}
 
 -- a smaller number compares as less
 nat_cmp-less : (x y : ℕ) → x < y → nat_cmp x y ≡ Less
@@ -85,7 +85,7 @@ number_in_order a b c d e f g h o b_is c_is d_is f_is g_is h_is =
     let third = ordering_then (nat_cmp d h) o in
     let second = ordering_then (nat_cmp c g) third in
     ap (λ r. ordering_then r o)
-        (last_digit_in_order (two (two a b) c) d (two (two e f) g) h d_is h_is)
+    (last_digit_in_order (two (two a b) c) d (two (two e f) g) h d_is h_is)
     ∙ ordering_then-assoc (nat_cmp (two (two a b) c) (two (two e f) g)) (nat_cmp d h) o
     ∙ ap (λ r. ordering_then r third) (last_digit_in_order (two a b) c (two e f) g c_is g_is)
     ∙ ordering_then-assoc (nat_cmp (two a b) (two e f)) (nat_cmp c g) third
@@ -123,9 +123,9 @@ step_texts_in_order m n s t p q =
     let g_is : g < 36 = omega arith in
     let h_is : h < 36 = omega arith in
     same_four _ _ _ _ _ _ _ _ o
-        (digits_in_order a e (highest_digit m p) (highest_digit n q))
-        (digits_in_order b f b_is f_is) (digits_in_order c g c_is g_is)
-        (digits_in_order d h d_is h_is)
+    (digits_in_order a e (highest_digit m p) (highest_digit n q))
+    (digits_in_order b f b_is f_is) (digits_in_order c g c_is g_is)
+    (digits_in_order d h d_is h_is)
     ∙ sym (number_in_order a b c d e f g h o b_is c_is d_is f_is g_is h_is)
     ∙ ap (λ x. ordering_then (nat_cmp x (in_base_36 e f g h)) o) (digits_nested m)
     ∙ ap (λ y. ordering_then (nat_cmp m y) o) (digits_nested n)
@@ -198,8 +198,8 @@ BeginsWith-between (x ∷ front) u (y ∷ b) w after before =
     elim (cases_order x y) [
       | inl same ↦
           let begins = BeginsWith-between front u b w
-              (sym (same_first x y lower same) ∙ after)
-              (sym (same_first y x upper (sym same)) ∙ before) in
+          (sym (same_first x y lower same) ∙ after)
+          (sym (same_first y x upper (sym same)) ∙ before) in
           (begins.0, ap (λ n. n ∷ (front ++ begins.0)) same ∙ ap (λ t. y ∷ t) begins.1)
       | inr (inl below) ↦ let greater = greater_first y x upper below in cc
       | inr (inr above) ↦ let greater = greater_first x y lower above in cc

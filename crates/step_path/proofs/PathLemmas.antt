@@ -1,10 +1,10 @@
 -- How paths, their texts and what is read back from them go together.
-use Rattle.std.proofs.Common.{◌≡◌, ℕ, zero, suc, ◌+◌, ◌-◌, ◌*◌, ◌<◌, ◌≤◌, List, [], ◌∷◌, ◌++◌, length, get_or, take, drop, refl, ap, sym, ◌∙◌, subst, append_assoc, arith, length-append}
+use Rattle.std.proofs.Common.{◌≡◌, ℕ, zero, suc, ◌+◌, ◌*◌, ◌<◌, ◌≤◌, List, [], ◌∷◌, ◌++◌, length, get_or, take, drop, refl, ap, sym, ◌∙◌, subst, append_assoc, arith, length-append}
 use Rattle.std.specs.Prelude.{Bool, true, nat_eq}
 use Rattle.std.specs.Cmp.Lexicographic.{pointwise}
 use Rattle.std.proofs.lemmas.Bool.Decides.{Decides-eqb}
 use Rattle.std.proofs.lemmas.Slice.Eq.{starts_is}
-use Rattle.std.proofs.lemmas.List.{append-nil, length-take-le, length-drop, length_push, take_more, take_all, take_at, drop_at, drop_more, take-append-drop}
+use Rattle.std.proofs.lemmas.List.{append-nil, length-take-le, length_push, take_more, take_all, take_at, drop_at, drop_more, take-append-drop}
 use Rattle.step_path.specs.declared.path.TheConstants.{MAX_DEPTH}
 use Rattle.step_path.specs.Step.{IsStep, IsStepText, step_text}
 use Rattle.step_path.specs.Path.{AreSteps, IsPath, IsPathText, BeginsWith, path_text, steps_of, relabelled}
@@ -61,8 +61,12 @@ pub length-path_text : (path : List ℕ) → length (path_text path) ≡ 4 * len
 unfolding path_text
 length-path_text [] = refl
 length-path_text (step ∷ path) =
-    omega (arith, length-append (step_text step) (path_text path), length-step_text step,
-        length-path_text path)
+    omega (
+      arith,
+      length-append (step_text step) (path_text path),
+      length-step_text step,
+      length-path_text path,
+    )
 
 -- the first step is read from the first four characters
 pub steps_of-step_text : (step : ℕ) (rest : List ℕ) → IsStep step →
@@ -100,9 +104,10 @@ IsPathText-path_text path p =
 -- a text that is equal to the text of a path is a path's text, and that path is read from it
 pub IsPathText-from : (path text : List ℕ) → IsPath path → path_text path ≡ text →
     IsPathText text × (steps_of text ≡ path)
-IsPathText-from path text p is =
-    (subst IsPathText is (IsPathText-path_text path p),
-        ap steps_of (sym is) ∙ steps_of-path_text path p.steps)
+IsPathText-from path text p is = (
+  subst IsPathText is (IsPathText-path_text path p),
+  ap steps_of (sym is) ∙ steps_of-path_text path p.steps,
+)
 
 -- two lists of steps with one text are one
 pub path_text-injective : (a b : List ℕ) → AreSteps a → AreSteps b →
@@ -126,7 +131,8 @@ step_text_at path k d below =
     let split : path ≡ front ++ step ∷ rest =
     sym (take-append-drop k path) ∙ ap (λ t. front ++ t) (drop_more path k d below) in
     let joined : path_text path ≡ path_text front ++ (step_text step ++ path_text rest) =
-    ap path_text split ∙ path_text-append front (step ∷ rest) ∙ ap (λ t. path_text front ++ t) (path_text-cons step rest) in
+    ap path_text split ∙ path_text-append front (step ∷ rest)
+    ∙ ap (λ t. path_text front ++ t) (path_text-cons step rest) in
     ap (λ t. take 4 (drop (4 * k) t)) joined
     ∙ ap (take 4) (drop_at (path_text front) (step_text step ++ path_text rest) (4 * k)
     (length-path_text front ∙ ap (λ n. 4 * n) (length-take-le k path (omega arith))))
@@ -141,8 +147,10 @@ path_text-push path step =
 -- one path begins with another where its text begins with the other's
 pub BeginsWith-from_texts : (front whole : List ℕ) → AreSteps front → AreSteps whole →
     BeginsWith (path_text front) (path_text whole) → BeginsWith front whole
-BeginsWith-from_texts front whole p q (rest, is) =
-    (steps_of rest, sym (steps_of-append front rest p) ∙ ap steps_of is ∙ steps_of-path_text whole q)
+BeginsWith-from_texts front whole p q (rest, is) = (
+  steps_of rest,
+  sym (steps_of-append front rest p) ∙ ap steps_of is ∙ steps_of-path_text whole q,
+)
 
 -- the text of a path begins with the text of each path that it begins with
 pub BeginsWith-texts : (front whole : List ℕ) → BeginsWith front whole →
@@ -185,7 +193,8 @@ IsPath-relabelled old new path n p short =
     record {
       some = omega (arith, length-append new (drop (length old) path));
       within = short;
-      steps = AreSteps-append new (drop (length old) path) n.steps (AreSteps-drop (length old) path p.steps);
+      steps = AreSteps-append new (drop (length old) path) n.steps
+          (AreSteps-drop (length old) path p.steps);
     }
 
 -- a list that is not empty is its front and its last element
@@ -224,7 +233,7 @@ pub IsPathText-length : (text : List ℕ) → IsPathText text →
     (length text ≡ 4 * length (steps_of text)) × (0 < length text) × (length text ≤ 252)
 IsPathText-length text p =
     let long : length text ≡ 4 * length (steps_of text) =
-        ap length (sym p.joins) ∙ length-path_text (steps_of text) in
+    ap length (sym p.joins) ∙ length-path_text (steps_of text) in
     (long, omega (arith, p.path.some), omega (arith, p.path.within))
 
 -- each block of four characters of a path's text is the text of a step

@@ -1,5 +1,5 @@
 -- What the four characters of a step say, and what is read back from them.
-use Rattle.std.proofs.Common.{◌≡◌, ℕ, ◌+◌, ◌-◌, ◌*◌, ◌/◌, ◌%◌, ◌<◌, ◌≤◌, List, [], ◌∷◌, ◌++◌, length, get_or, refl, ap, sym, ◌∙◌, subst, arith}
+use Rattle.std.proofs.Common.{◌≡◌, ℕ, ◌+◌, ◌*◌, ◌/◌, ◌%◌, ◌<◌, List, length, refl, sym, ◌∙◌, subst, arith}
 use Rattle.std.proofs.lemmas.Bool.Decides.{nat_tests}
 use Rattle.step_path.specs.Step.{IsStep, digit_of, digit_read, step_text, number_read, number_in_text, IsStepText}
 
@@ -21,13 +21,19 @@ pub number_read-digits : (a b c d : ℕ) → a < 36 → b < 36 → c < 36 → d 
     number_read (digit_of a) (digit_of b) (digit_of c) (digit_of d)
     ≡ a * 46_656 + b * 1296 + c * 36 + d
 number_read-digits a b c d p q r s =
-    omega (arith, digit_read-digit_of a p, digit_read-digit_of b q, digit_read-digit_of c r,
-        digit_read-digit_of d s)
+    omega (
+      arith,
+      digit_read-digit_of a p,
+      digit_read-digit_of b q,
+      digit_read-digit_of c r,
+      digit_read-digit_of d s,
+    )
 
 -- a step is read back from its four characters
 pub number_read-step : (n : ℕ) → IsStep n →
     number_read
-        (digit_of (n / 46_656)) (digit_of (n / 1296 % 36)) (digit_of (n / 36 % 36)) (digit_of (n % 36))
+    (digit_of (n / 46_656)) (digit_of (n / 1296 % 36))
+    (digit_of (n / 36 % 36)) (digit_of (n % 36))
     ≡ n
 number_read-step n step =
     number_read-digits (n / 46_656) (n / 1296 % 36) (n / 36 % 36) (n % 36)
@@ -40,7 +46,7 @@ pub step_from_text : (text : List ℕ) → IsStepText text →
 unfolding step_text
 step_from_text text (n, step, is) =
     let P : List ℕ → Type 0 =
-        λ t. IsStep (number_in_text t) × (step_text (number_in_text t) ≡ t) in
+    λ t. IsStep (number_in_text t) × (step_text (number_in_text t) ≡ t) in
     let Q : ℕ → Type 0 = λ m. IsStep m × (step_text m ≡ step_text n) in
     subst P is (subst Q (sym (number_read-step n step)) (step, refl))
 

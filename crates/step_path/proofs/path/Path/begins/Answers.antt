@@ -1,5 +1,5 @@
 -- The slice of steps begins as the path does.
-use Rattle.std.proofs.Common.{◌≡◌, List, ℕ, ap, ◌∙◌, take, length}
+use Rattle.std.proofs.Common.{List, ℕ, ap, ◌∙◌}
 use Rattle.std.specs.Prelude.{nat_eq}
 use Rattle.std.specs.List.{starts_with}
 use Rattle.step_path.proofs.PathLemmas.{BeginsWith-from_test}

@@ -1,5 +1,5 @@
 -- A path with one more step is a path where there is room.
-use Rattle.std.proofs.Common.{◌≡◌, ℕ, ◌<◌, ◌≤◌, [], ◌∷◌, ◌++◌, List, length, ap, sym, ◌∙◌, subst, arith}
+use Rattle.std.proofs.Common.{◌≡◌, ℕ, ◌<◌, [], ◌∷◌, ◌++◌, List, length, ap, sym, ◌∙◌, subst, arith}
 use Rattle.step_path.specs.declared.path.TheConstants.{MAX_DEPTH}
 use Rattle.step_path.specs.Path.{IsPath}
 use Rattle.step_path.proofs.PathLemmas.{IsPath-child}

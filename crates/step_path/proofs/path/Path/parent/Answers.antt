@@ -1,6 +1,5 @@
 -- The first steps of a path are a path.
-use Rattle.std.proofs.Common.{◌≡◌, ℕ, ◌-◌, ◌<◌, ◌≤◌, ◌∷◌, [], ◌++◌, List, length, take, get_or, ap, sym, ◌∙◌, arith}
-use Rattle.step_path.specs.Path.{IsPath}
+use Rattle.std.proofs.Common.{◌-◌, ◌<◌, ◌≤◌, length, get_or, arith}
 use Rattle.step_path.proofs.PathLemmas.{IsPath-take, front_and_last}
 use Rattle.step_path.proofs.path.Path.parent.Goals as goal
 

@@ -1,11 +1,11 @@
 -- Each turn reads the next block of four characters.
-use Rattle.std.proofs.Common.{◌≡◌, ℕ, ◌+◌, ◌-◌, ◌*◌, ◌/◌, ◌<◌, ◌≤◌, List, [], ◌∷◌, ◌++◌, length, take, drop, ap, sym, ◌∙◌, arith, subst}
+use Rattle.std.proofs.Common.{◌≡◌, ℕ, ◌+◌, ◌-◌, ◌*◌, ◌<◌, List, [], ◌∷◌, ◌++◌, length, take, drop, ap, sym, ◌∙◌, arith, subst}
 use Rattle.std.proofs.Math.Seq.{take-add}
 use Rattle.std.proofs.lemmas.Bool.{eqb-false}
 use Rattle.std.proofs.lemmas.Bool.Decides.{nat_tests}
 use Rattle.std.proofs.lemmas.List.{length_push, take_all}
 use Rattle.step_path.specs.Step.{IsStepText, step_text}
-use Rattle.step_path.specs.Path.{AreSteps, IsPathText, path_text}
+use Rattle.step_path.specs.Path.{AreSteps, path_text}
 use Rattle.step_path.proofs.PathLemmas.{IsPathText-length, IsStepText-at, IsPathText-read, path_text-push, AreSteps-append}
 use Rattle.step_path.proofs.path.Path.read.Goals as goal
 

@@ -1,5 +1,5 @@
 -- Each turn adds the four characters of the next step, for which there is room.
-use Rattle.std.proofs.Common.{◌≡◌, ℕ, ◌+◌, ◌*◌, ◌<◌, ◌≤◌, List, ◌++◌, length, take, get_or, ap, sym, ◌∙◌, rules, arith, subst}
+use Rattle.std.proofs.Common.{◌≡◌, ℕ, ◌+◌, ◌≤◌, List, ◌++◌, length, take, get_or, ap, sym, ◌∙◌, rules, arith, subst}
 use Rattle.std.proofs.lemmas.List.{take_all}
 use Rattle.step_path.specs.Step.{step_text}
 use Rattle.step_path.specs.Path.{IsPathText, path_text}

@@ -1,6 +1,6 @@
 -- The new steps and the rest of the old path are a path where they fit.
-use Rattle.std.proofs.Common.{◌≡◌, ℕ, ◌-◌, ◌+◌, ◌≤◌, List, ◌++◌, length, take, drop, ap, sym, ◌∙◌, refl, subst, arith}
-use Rattle.std.proofs.lemmas.List.{take_rest, length-append}
+use Rattle.std.proofs.Common.{◌≡◌, ℕ, ◌-◌, ◌≤◌, List, ◌++◌, length, take, drop, ap, sym, ◌∙◌, refl, subst, arith}
+use Rattle.std.proofs.lemmas.List.{take_rest}
 use Rattle.step_path.specs.declared.path.TheConstants.{MAX_DEPTH}
 use Rattle.step_path.specs.Path.{IsPath, relabelled}
 use Rattle.step_path.proofs.PathLemmas.{IsPath-relabelled}

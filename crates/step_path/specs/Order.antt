@@ -1,5 +1,4 @@
--- The depth-first order of paths: step by step, and a path before the longer ones that begin with
--- it.
+-- The depth-first order of paths: step by step, and a path before the longer ones that begin so.
 -- It is the order in which django-treebeard lists the rows of an MP_Node, `ORDER BY path`.
 use Rattle.std.specs.Prelude.{◌≡◌, ℕ, List}
 use Rattle.std.specs.declared.cmp.Ordering.{Ordering}

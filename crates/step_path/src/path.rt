@@ -12,7 +12,7 @@ use std::marker::Model;
 pub const MAX_DEPTH: usize = 63;
 
 /// The greatest number of characters of a path's text, 252: four for each step.
-pub const MAX_TEXT: usize = 252;
+pub const MAX_TEXT: usize = STEP_TEXT * MAX_DEPTH;
 
 /// The steps from the root down to a page, 1 to 63 of them.
 ///

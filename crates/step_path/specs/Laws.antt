@@ -2,12 +2,14 @@
 use Rattle.std.specs.Prelude.{◌≡◌, ℕ, List, ◌∷◌, ◌++◌}
 use Rattle.std.specs.declared.cmp.Ordering.TheVariants.{Equal}
 use Rattle.std.specs.Cmp.{IsTotalOrder}
-use Rattle.step_path.specs.Path.{AreSteps, IsPath, IsPathText, BeginsWith, path_text, steps_of, relabelled}
+use Rattle.step_path.specs.Path.{IsPath, IsPathText, BeginsWith, path_text, steps_of, relabelled}
 use Rattle.step_path.specs.Order.{path_cmp, IsBefore}
 
 -- a path is read back from its text, which is a path's text
 abbrev pub TextReadsBack : Type 0
-TextReadsBack = (path : List ℕ) → IsPath path → IsPathText (path_text path) × (steps_of (path_text path) ≡ path)
+TextReadsBack =
+    (path : List ℕ) → IsPath path →
+    IsPathText (path_text path) × (steps_of (path_text path) ≡ path)
 
 -- no two paths have one text
 abbrev pub TextTellsPathsApart : Type 0
@@ -33,14 +35,17 @@ OrderIsTotal = IsTotalOrder path_cmp × ((a b : List ℕ) → path_cmp a b ≡ E
 abbrev pub PageBeforeDescendants : Type 0
 PageBeforeDescendants = (path : List ℕ) (step : ℕ) (rest : List ℕ) → IsBefore path (path ++ step ∷ rest)
 
--- what comes between two paths that begin alike begins so too: a page and its descendants stand together
+-- what comes between two paths that begin alike begins so too: a page and the pages below it
+-- stand together
 abbrev pub SubtreeStandsTogether : Type 0
 SubtreeStandsTogether =
-    (front a b c : List ℕ) → BeginsWith front a → BeginsWith front c → IsBefore a b → IsBefore b c → BeginsWith front b
+    (front a b c : List ℕ) → BeginsWith front a → BeginsWith front c →
+    IsBefore a b → IsBefore b c → BeginsWith front b
 
 -- after a replaced beginning the rest stays, and paths below it compare as before
 abbrev pub RelabelKeepsRestAndOrder : Type 0
 RelabelKeepsRestAndOrder =
     (old new a b : List ℕ) →
     (relabelled old new (old ++ a) ≡ new ++ a)
-    × (path_cmp (relabelled old new (old ++ a)) (relabelled old new (old ++ b)) ≡ path_cmp (old ++ a) (old ++ b))
+    × (path_cmp (relabelled old new (old ++ a)) (relabelled old new (old ++ b))
+    ≡ path_cmp (old ++ a) (old ++ b))

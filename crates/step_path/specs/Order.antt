@@ -1,4 +1,4 @@
--- The depth-first order of paths: step by step, and a path before the longer ones that begin with it.
+-- The depth-first order of paths: step by step, and a path before the longer ones that begin so.
 -- It is the order in which django-treebeard lists the rows of an MP_Node, `ORDER BY path`.
 use Rattle.std.specs.Prelude.{◌≡◌, ℕ, List}
 use Rattle.std.specs.declared.cmp.Ordering.{Ordering}
@@ -6,7 +6,8 @@ use Rattle.std.specs.declared.cmp.Ordering.TheVariants.{Less}
 use Rattle.std.specs.Ordering.{nat_cmp}
 use Rattle.std.specs.Cmp.Lexicographic.{slice_cmp}
 
--- how two paths, or two texts, compare: the first place at which they differ decides, and else their lengths do
+-- how two paths, or two texts, compare: the first place at which they differ decides, and else
+-- their lengths do
 abbrev pub path_cmp : List ℕ → List ℕ → Ordering
 path_cmp a b = slice_cmp nat_cmp a b
 

@@ -20,7 +20,8 @@ unfoldable pub path_text : List ℕ → List ℕ
 path_text [] = []
 path_text (step ∷ rest) = step_text step ++ path_text rest
 
--- the numbers that a text writes, four characters each; up to three characters at the end are passed over
+-- the numbers that a text writes, four characters each; up to three characters at the end are
+-- passed over
 unfoldable pub steps_of : List ℕ → List ℕ
 steps_of (a ∷ b ∷ c ∷ d ∷ rest) = number_read a b c d ∷ steps_of rest
 steps_of _ = []

@@ -18,7 +18,8 @@ digit_read c = if nat_lt c 65 then c - 48 else (c - 55)
 -- the four characters of a step, the highest digit first
 unfoldable pub step_text : ℕ → List ℕ
 step_text n =
-    digit_of (n / 46_656) ∷ digit_of (n / 1296 % 36) ∷ digit_of (n / 36 % 36) ∷ digit_of (n % 36) ∷ []
+    digit_of (n / 46_656) ∷ digit_of (n / 1296 % 36) ∷ digit_of (n / 36 % 36)
+    ∷ digit_of (n % 36) ∷ []
 
 -- the text is the text of a step
 abbrev pub IsStepText : List ℕ → Type 0

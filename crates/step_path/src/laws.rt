@@ -1,5 +1,5 @@
-//! Laws of paths, their texts and their order. Each is a function that does nothing: its contract is
-//! the law.
+//! Laws of paths, their texts and their order. Each is a function that does nothing: its contract
+//! is the law.
 ghost use Rattle.step_path.specs.Laws.{TextReadsBack, TextTellsPathsApart, TextsBeginAsPaths, TextsCompareAsPaths, OrderIsTotal, PageBeforeDescendants, SubtreeStandsTogether, RelabelKeepsRestAndOrder};
 
 /// A path is read back from its text.

@@ -1,4 +1,4 @@
-//! Steps, paths and their texts: the materialized paths of a page tree.
+//! Steps, paths and their texts: the materialized paths of a page tree, and a count of work.
 //!
 //! The source is django-treebeard 4.7, MP_Node, with `steplen` 4 and the alphabet of 36 digits.
 #![tactic(auto)]

@@ -12,7 +12,7 @@ use std::marker::Model;
 pub const MAX_DEPTH: usize = 63;
 
 /// The greatest number of characters of a path's text, 252: four for each step.
-pub const MAX_TEXT: usize = 252;
+pub const MAX_TEXT: usize = STEP_TEXT * MAX_DEPTH;
 
 /// The steps from the root down to a page, 1 to 63 of them.
 ///
@@ -117,10 +117,8 @@ impl Path {
     /// exactly where that has more than 63 steps.
     pub fn with_prefix(&self, old: &Path, new: &Path) -> Option<Path>
         requires { BeginsWith old.now self.now }
-        ensures {
-            let moved = relabelled old.now new.now self.now in
-            SomeIff result (length moved ≤ MAX_DEPTH) moved
-        }
+        ensures { let moved = relabelled old.now new.now self.now in
+            SomeIff result (length moved ≤ MAX_DEPTH) moved }
     {
         let rest = &self.steps[old.steps.len()..];
         let mut steps = copied(&new.steps);

@@ -82,9 +82,10 @@ impl Step {
         ]
     }
 
-    /// The step with this text, or `None` exactly where the text is no step's, as `0000` and `000a`.
+    /// The step with this text, or `None` exactly where it is no step's, as `0000` and `000a`.
     pub fn read(text: &[u8]) -> Option<Step>
-        ensures { MatchOption result (¬ IsStepText text.now) (λ step. IsStep step × (step_text step ≡ text.now)) }
+        ensures { MatchOption result (¬ IsStepText text.now)
+            (λ step. IsStep step × (step_text step ≡ text.now)) }
     {
         if text.len() != STEP_TEXT {
             return None;

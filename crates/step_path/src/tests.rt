@@ -17,7 +17,11 @@ fn below_root(numbers: &[u32]) -> Option<Path> {
 
 /// The path after a move of the page `old` to `new`, if it begins with `old`.
 fn moved(path: &Path, old: &Path, new: &Path) -> Option<Path> {
-    if old.begins(path) { path.with_prefix(old, new) } else { None }
+    if old.begins(path) {
+        path.with_prefix(old, new)
+    } else {
+        None
+    }
 }
 
 /// The order of two paths, by their texts.

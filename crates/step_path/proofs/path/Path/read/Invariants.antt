@@ -5,7 +5,7 @@ use Rattle.step_path.proofs.path.Path.read.Given as goal
 
 abbrev pub invariant-loop-place : goal.invariant-loop-place
 invariant-loop-place l = record {
-    count : length l.steps.items ≡ l.place;
-    steps : AreSteps l.steps.items;
-    joins : path_text l.steps.items ≡ take (4 * l.place) l.text;
+  count : length l.steps.items ≡ l.place;
+  steps : AreSteps l.steps.items;
+  joins : path_text l.steps.items ≡ take (4 * l.place) l.text;
 }

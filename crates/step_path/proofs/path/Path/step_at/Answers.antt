@@ -8,7 +8,7 @@ use Rattle.step_path.proofs.path.Path.step_at.Goals as goal
 pub checked-requires : goal.checked-requires
 checked-requires c =
     AreSteps-at c.deref.result.now c.args.place 0 (rw c.deref.ensures.0 c.self.invariant.steps)
-        (rw c.deref.ensures.0 (omega (arith, c.self.invariant.some)))
+    (rw c.deref.ensures.0 (omega (arith, c.self.invariant.some)))
 
 pub returns-then-place-len : goal.returns-then-place-len
 returns-then-place-len c =

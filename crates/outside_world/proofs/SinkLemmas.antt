@@ -23,7 +23,8 @@ pub with_back_more : (before then after : Option (List ℕ)) (piece : List ℕ) 
 with_back_more before then after piece w n first second =
     let rest : take n (take (length piece - w) (drop w piece)) ≡ take n (drop w piece) =
     ap (take n) (take_rest piece w) in
-    let joined : take w piece ++ take n (take (length piece - w) (drop w piece)) ≡ take (w + n) piece =
+    let joined : take w piece ++ take n (take (length piece - w) (drop w piece))
+    ≡ take (w + n) piece =
     ap (λ back. take w piece ++ back) rest ∙ sym (take-add w n piece) in
     second ∙ ap (λ t. with_back t (take n (take (length piece - w) (drop w piece)))) first
     ∙ with_back-with_back before _ _ ∙ ap (with_back before) joined
@@ -40,3 +41,8 @@ AppendsPart_more before then after piece w fits first part = record {
       omega (arith, length-take {A = ℕ}, length-drop {A = ℕ});
   appended = with_back_more before then after piece w part.count first part.appended;
 }
+
+-- nothing was appended, whatever the piece
+pub AppendsPart-same : (taken : Option (List ℕ)) (piece : List ℕ) → AppendsPart taken taken piece
+AppendsPart-same taken piece =
+    record { count = 0; within = omega arith; appended = sym (with_back-nil taken) }

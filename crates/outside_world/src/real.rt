@@ -78,14 +78,8 @@ impl<W: Write> Sink for StreamSink<W> {
 /// The clock of the system. It tells no moments.
 #[derive(Clone, Copy)]
 pub struct SystemClock<R> {
-    runtime: R,
-}
-
-impl<R: rt::Clock + Copy> SystemClock<R> {
-    /// The clock of this runtime.
-    pub fn new(runtime: R) -> Self {
-        SystemClock { runtime }
-    }
+    /// The runtime whose clock is read.
+    pub runtime: R,
 }
 
 impl<R: rt::Clock + Copy> Clock for SystemClock<R> {
@@ -102,7 +96,9 @@ impl<R: rt::Clock + Copy> Clock for SystemClock<R> {
         }
     }
 
-    fn twin(&self) -> Self {
+    fn twin(&self) -> Self
+        ensures { result ≡ self.now }
+    {
         *self
     }
 }

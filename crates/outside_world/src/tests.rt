@@ -163,7 +163,7 @@ fn a_stream_writes_what_it_is_given(rt: HostRuntime) -> Result<(), Fail> {
 
 #[test]
 fn the_clock_of_the_system_gives_seconds_since_1970(rt: HostRuntime) {
-    let mut clock = SystemClock::new(rt);
+    let mut clock = SystemClock { runtime: rt };
     assert!(rt; clock.now() > 1_700_000_000);
     assert!(rt; clock.twin().now() < 253_370_764_799);
     for (read, given) in [
@@ -171,7 +171,8 @@ fn the_clock_of_the_system_gives_seconds_since_1970(rt: HostRuntime) {
         (Some(253_370_764_800), 253_370_764_799),
         (None, 0),
     ] {
-        assert_eq!(rt; SystemClock::new(At(read)).now(), given);
+        let mut clock = SystemClock { runtime: At(read) };
+        assert_eq!(rt; clock.now(), given);
     }
 }
 

@@ -13,4 +13,5 @@ loop-written-preserved g c = record {
 
 pub returns-in-Err-clause-part : goal.returns-in-Err-clause-part
 returns-in-Err-clause-part g c =
-    AppendsPart_more _ _ _ _ _ c.loop-written.invariant.within c.loop-written.invariant.appended c.in-Err.ensures.part
+    let before = c.loop-written.invariant in
+    AppendsPart_more _ _ _ _ _ before.within before.appended c.in-Err.ensures.part

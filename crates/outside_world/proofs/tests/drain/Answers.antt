@@ -19,7 +19,9 @@ moved_more left_0 left_1 left_2 taken_0 taken_1 taken_2 piece before read writte
 
 pub loop-preserved : goal.loop-preserved
 loop-preserved g c = record {
-  moved = moved_more _ _ _ _ _ _ _ c.loop.invariant.moved c.in-Ok.ensures.moved c.in-Ok-write_all.ensures.whole;
+  moved =
+      moved_more _ _ _ _ _ _ _ c.loop.invariant.moved c.in-Ok.ensures.moved
+      c.in-Ok-write_all.ensures.whole;
   later = omega arith;
   later_sink = omega arith;
 }

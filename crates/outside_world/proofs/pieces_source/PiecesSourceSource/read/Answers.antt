@@ -4,4 +4,5 @@ use Rattle.outside_world.proofs.pieces_source.PiecesSourceSource.read.Goals as g
 
 pub returns-clause-moved : goal.returns-clause-moved
 returns-clause-moved c =
-    moved_within _ _ _ _ _ _ (omega arith) (ap (λ v. v.feed.left) c.self.view_is) c.read.ensures.ok c.read.ensures.moved
+    moved_within _ _ _ _ _ _ (omega arith) (ap (λ v. v.feed.left) c.self.view_is)
+    c.read.ensures.ok c.read.ensures.moved

@@ -4,5 +4,7 @@
 mod answer;
 mod form;
 mod held;
+mod request;
+mod site;
 
 fn main() {}

@@ -45,8 +45,10 @@ content_eq content other =
 
 -- two tests are both true exactly where both facts hold
 both_decide : {P Q : Type 0} (p q : Bool) → Decides p P → Decides q Q → Decides (p && q) (P × Q)
-both_decide p q first second =
-    (λ e. (first.0 (first_so p q e), second.0 (second_so p q e)), λ h. and (first.1 h.0) (second.1 h.1))
+both_decide p q first second = (
+  λ e. (first.0 (first_so p q e), second.0 (second_so p q e)),
+  λ h. and (first.1 h.0) (second.1 h.1),
+)
   where
     and : p ≡ true → q ≡ true → (p && q) ≡ true
     and a b = cc

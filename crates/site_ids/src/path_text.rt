@@ -1,9 +1,15 @@
 //! The texts of paths.
-ghost use Rattle.std.specs.Prelude.{◌≡◌, ℕ, List};
+ghost use Rattle.std.specs.Prelude.{◌≡◌, ℕ, List, nat_eq};
 ghost use Rattle.std.specs.Option.{SomeIff};
+ghost use Rattle.std.specs.Cmp.{partial_equiv_from_equiv};
+ghost use Rattle.std.specs.Cmp.Lexicographic.{pointwise, nat_list_eq_equiv};
+ghost use Rattle.std.specs.Cmp.Rules.{hashing};
+ghost use Rattle.std.specs.Hash as fed;
+ghost use Rattle.std.proofs.Common.{rules};
 ghost use Rattle.site_ids.specs.PathText.{FitsPathText};
 
 use arrayvec::ArrayVec;
+use std::hash::{Hash, Hasher};
 use std::marker::Model;
 
 /// The greatest length of a path's text in bytes.
@@ -22,6 +28,30 @@ impl Model for PathText {
     ghost view = { λ path. path.bytes.items };
 
     ghost invariant = { λ path. FitsPathText path.bytes.items };
+}
+
+impl PartialEq for PathText {
+    ghost eq = { λ path other. pointwise nat_eq path other };
+
+    ghost laws = { partial_equiv_from_equiv nat_list_eq_equiv };
+
+    fn eq(&self, other: &Self) -> bool {
+        self.as_slice() == other.as_slice()
+    }
+}
+
+impl Eq for PathText {
+    ghost laws = { nat_list_eq_equiv };
+}
+
+impl Hash for PathText {
+    ghost hash_input = { λ path. fed.slice fed.u8 path };
+
+    ghost respects_eq = { Prim.search (hashing, rules) };
+
+    fn hash<H: Hasher>(&self, state: &mut H) {
+        self.as_slice().hash(state);
+    }
 }
 
 impl PathText {

@@ -1,10 +1,16 @@
 //! Slugs.
-ghost use Rattle.std.specs.Prelude.{◌≡◌, ℕ, ◌⊎◌, List, []};
+ghost use Rattle.std.specs.Prelude.{◌≡◌, ℕ, ◌⊎◌, List, [], nat_eq};
 ghost use Rattle.std.specs.List.{list_all};
 ghost use Rattle.std.specs.Option.{SomeIff};
+ghost use Rattle.std.specs.Cmp.{partial_equiv_from_equiv};
+ghost use Rattle.std.specs.Cmp.Lexicographic.{pointwise, nat_list_eq_equiv};
+ghost use Rattle.std.specs.Cmp.Rules.{hashing};
+ghost use Rattle.std.specs.Hash as fed;
+ghost use Rattle.std.proofs.Common.{rules};
 ghost use Rattle.site_ids.specs.Slug.{is_slug_byte, IsSlug};
 
 use arrayvec::ArrayVec;
+use std::hash::{Hash, Hasher};
 use std::marker::Model;
 
 /// The greatest length of a slug in bytes.
@@ -23,6 +29,30 @@ impl Model for Slug {
     ghost view = { λ slug. slug.bytes.items };
 
     ghost invariant = { λ slug. (slug.bytes.items ≡ []) ⊎ IsSlug slug.bytes.items };
+}
+
+impl PartialEq for Slug {
+    ghost eq = { λ slug other. pointwise nat_eq slug other };
+
+    ghost laws = { partial_equiv_from_equiv nat_list_eq_equiv };
+
+    fn eq(&self, other: &Self) -> bool {
+        self.as_slice() == other.as_slice()
+    }
+}
+
+impl Eq for Slug {
+    ghost laws = { nat_list_eq_equiv };
+}
+
+impl Hash for Slug {
+    ghost hash_input = { λ slug. fed.slice fed.u8 slug };
+
+    ghost respects_eq = { Prim.search (hashing, rules) };
+
+    fn hash<H: Hasher>(&self, state: &mut H) {
+        self.as_slice().hash(state);
+    }
 }
 
 impl Slug {

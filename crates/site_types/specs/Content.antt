@@ -10,6 +10,10 @@ pub record ContentValue : Type 0 where
   pub title : List ℕ
   pub blocks : List Block
 
+-- the content of a title and blocks
+abbrev pub content_of : List ℕ → List Block → ContentValue
+content_of title blocks = record { title = title; blocks = blocks }
+
 -- the form of a text: its length in four bytes, high byte first, and its bytes
 abbrev pub text_form : List ℕ → List ℕ
 text_form text = to_be_bytes w32 (length text) ++ text

@@ -5,3 +5,4 @@ pub use Rattle.site_ids.specs.PathText
 pub use Rattle.site_ids.specs.Slug
 pub mod Content
 pub mod RootBody
+pub mod Refusal

@@ -1,7 +1,8 @@
 //! Blocks of contents.
-ghost use Rattle.std.specs.Prelude.{◌≡◌, ◌==◌, length};
+ghost use Rattle.std.specs.Prelude.{◌≡◌, ◌==◌, length, IfOk};
 
-use site_ids::{PageId, Text, Texts};
+use site_ids::{NoMemory, PageId, Text, Texts};
+use std::alloc::Global;
 use std::marker::Model;
 
 /// One block of a content.
@@ -30,6 +31,20 @@ impl Model for Blocks {
     ghost Value = { List Block };
 
     ghost view = { λ list. list.blocks.items };
+}
+
+impl Block {
+    /// An equal block on memory of its own.
+    pub fn copy(&self, alloc: Global) -> Result<Self, NoMemory>
+        ensures { IfOk result (λ copy. copy ≡ self.now) }
+    {
+        match self {
+            Block::Heading(text) => Ok(Block::Heading(text.copy(alloc)?)),
+            Block::Paragraph(text) => Ok(Block::Paragraph(text.copy(alloc)?)),
+            Block::Items(texts) => Ok(Block::Items(texts.copy(alloc)?)),
+            Block::Page(page) => Ok(Block::Page(*page)),
+        }
+    }
 }
 
 impl Blocks {
@@ -67,5 +82,15 @@ impl Blocks {
         ensures { result ≡ (length self.now == 0) }
     {
         self.blocks.is_empty()
+    }
+    /// An equal list on memory of its own.
+    pub fn copy(&self, alloc: Global) -> Result<Self, NoMemory>
+        ensures { IfOk result (λ copy. copy ≡ self.now) }
+    {
+        let mut blocks = Vec::with_capacity(alloc, self.blocks.len())?;
+        for block in &self.blocks {
+            blocks.push(block.copy(alloc)?)?;
+        }
+        Ok(Blocks { blocks })
     }
 }

@@ -7,6 +7,7 @@ mod command;
 mod content;
 mod entry;
 mod limits;
+mod measure;
 mod moderation;
 mod page_row;
 mod permission;

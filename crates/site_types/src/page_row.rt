@@ -1,4 +1,6 @@
 //! Rows of pages.
+ghost use Rattle.std.specs.Prelude.{◌≡◌};
+
 use crate::Body;
 use site_ids::{PageId, PathText, Slug};
 
@@ -17,4 +19,20 @@ pub struct PageRow {
     pub slug: Slug,
     /// Its other fields.
     pub body: Body,
+}
+
+impl PageRow {
+    /// An equal row.
+    pub fn copy(&self) -> PageRow
+        ensures { result ≡ self.now }
+    {
+        PageRow {
+            id: self.id,
+            path: self.path.copy(),
+            depth: self.depth,
+            numchild: self.numchild,
+            slug: self.slug.copy(),
+            body: self.body,
+        }
+    }
 }

@@ -1,4 +1,7 @@
 //! Refusals of commands.
+ghost use Rattle.std.specs.Prelude.{◌≡◌};
+ghost use Rattle.site_types.specs.Refusal.{kind_number, refusal_number, refusal_name, refusal_carried};
+
 use site_ids::{PageId, TaskId, UserId};
 
 /// The kinds of things that a command names by number, in the order in which they are tried.
@@ -62,4 +65,95 @@ pub enum Refusal {
     ContentFull,
     /// The log or the journal file has no room for the entry.
     LogFull,
+}
+
+impl NameKind {
+    /// The kind's number, from 1 to 4.
+    pub fn number(self) -> u8
+        ensures { result ≡ kind_number self }
+    {
+        match self {
+            NameKind::User => 1,
+            NameKind::Group => 2,
+            NameKind::Task => 3,
+            NameKind::Workflow => 4,
+        }
+    }
+}
+
+impl Refusal {
+    /// The refusal's number on the wire, from 1 to 22.
+    pub fn number(self) -> u8
+        ensures { result ≡ refusal_number self }
+    {
+        match self {
+            Refusal::NoPage(_) => 1,
+            Refusal::IsRoot => 2,
+            Refusal::Denied(_) => 3,
+            Refusal::Locked(_) => 4,
+            Refusal::IsAlias => 5,
+            Refusal::InModeration(_) => 6,
+            Refusal::IntoItself => 7,
+            Refusal::SlugTaken(_) => 8,
+            Refusal::StepsFull => 9,
+            Refusal::TooDeep => 10,
+            Refusal::UrlTooLong => 11,
+            Refusal::IdsFull => 12,
+            Refusal::NoDesk => 13,
+            Refusal::DeskTaken(_) => 14,
+            Refusal::NothingNew => 15,
+            Refusal::NotLive => 16,
+            Refusal::NoWorkflow => 17,
+            Refusal::NotModerated => 18,
+            Refusal::NoName(_) => 19,
+            Refusal::AlreadyExpired => 20,
+            Refusal::ContentFull => 21,
+            Refusal::LogFull => 22,
+        }
+    }
+
+    /// The refusal's name on the wire: that of its variant.
+    pub fn name(self) -> &'static str
+        ensures { result.now ≡ refusal_name self }
+    {
+        match self {
+            Refusal::NoPage(_) => "NoPage",
+            Refusal::IsRoot => "IsRoot",
+            Refusal::Denied(_) => "Denied",
+            Refusal::Locked(_) => "Locked",
+            Refusal::IsAlias => "IsAlias",
+            Refusal::InModeration(_) => "InModeration",
+            Refusal::IntoItself => "IntoItself",
+            Refusal::SlugTaken(_) => "SlugTaken",
+            Refusal::StepsFull => "StepsFull",
+            Refusal::TooDeep => "TooDeep",
+            Refusal::UrlTooLong => "UrlTooLong",
+            Refusal::IdsFull => "IdsFull",
+            Refusal::NoDesk => "NoDesk",
+            Refusal::DeskTaken(_) => "DeskTaken",
+            Refusal::NothingNew => "NothingNew",
+            Refusal::NotLive => "NotLive",
+            Refusal::NoWorkflow => "NoWorkflow",
+            Refusal::NotModerated => "NotModerated",
+            Refusal::NoName(_) => "NoName",
+            Refusal::AlreadyExpired => "AlreadyExpired",
+            Refusal::ContentFull => "ContentFull",
+            Refusal::LogFull => "LogFull",
+        }
+    }
+
+    /// The value that the refusal carries, if it carries one: the number of a page, user or task,
+    /// of a need, or of a kind of name.
+    pub fn carried(self) -> Option<u32>
+        ensures { result ≡ refusal_carried self }
+    {
+        match self {
+            Refusal::NoPage(page) | Refusal::SlugTaken(page) => Some(page.get()),
+            Refusal::Denied(need) => Some(u32::from(need)),
+            Refusal::Locked(user) | Refusal::DeskTaken(user) => Some(user.get()),
+            Refusal::InModeration(task) => Some(task.get()),
+            Refusal::NoName(kind) => Some(u32::from(kind.number())),
+            _ => None,
+        }
+    }
 }

@@ -1,0 +1,4 @@
+pub mod Step
+pub mod Path
+pub mod Order
+pub mod Laws

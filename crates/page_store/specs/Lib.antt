@@ -1,1 +1,3 @@
 pub mod PageRows
+pub mod Pages
+pub mod Kept

@@ -1,6 +1,8 @@
 //! The rows of all pages in path order, after django-treebeard's `MP_Node` table.
 #![tactic(auto)]
 
+mod look_up;
 mod rows;
+mod stored;
 
-pub use rows::{Kids, Rows};
+pub use rows::Rows;

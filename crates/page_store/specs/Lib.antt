@@ -1,3 +1,4 @@
 pub mod PageRows
 pub mod Pages
 pub mod Kept
+pub mod Search

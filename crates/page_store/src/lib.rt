@@ -3,6 +3,7 @@
 
 mod look_up;
 mod rows;
+mod search;
 mod stored;
 
 pub use rows::Rows;

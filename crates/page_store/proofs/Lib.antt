@@ -1,2 +1,4 @@
 pub mod PathOrder
 pub mod Leading
+pub mod AllLemmas
+pub mod InsertLemmas

@@ -4,6 +4,7 @@ use Rattle.std.specs.Prelude.{◌≡◌, ℕ, true, Option, Some, None, IsSome, 
 use Rattle.std.specs.List.{AllByRecursion}
 use Rattle.page_tree.specs.Rows.{Row, comes_before, kids_in}
 use Rattle.step_path.specs.Path.{IsPath}
+use Rattle.site_types.specs.Ids.{IsPageId}
 use Rattle.site_types.specs.declared.body.Body.{Body}
 use Rattle.page_store.specs.PageRows.{parent_id}
 
@@ -40,11 +41,12 @@ abbrev pub StartsAtRoot : List Page → Type 0
 StartsAtRoot [] = ⊥
 StartsAtRoot (row ∷ rows) = IsRootRow row × AllByRecursion (λ later. IsSome later.parent) rows
 
--- The rows of a tree of pages: the root first, each path once and in depth-first order, each id once; a page's parent
+-- The rows of a tree of pages: the root first, each path once and in depth-first order, each id once and in its range; a page's parent
 -- is the page whose path is its own without the last step; a page's child count is the number of its kids; and no two
 -- kids of a page have one slug.
 pub record ArePages (pages : List Page) : Type 0 where
   pub root : StartsAtRoot pages
+  pub ids_fit : AllByRecursion (λ row. IsPageId row.id) pages
   pub paths : AllByRecursion (λ row. IsPath row.path) pages
   pub in_order : EachPair IsBefore pages
   pub own_ids : EachPair HasOtherId pages

@@ -13,11 +13,11 @@ use Rattle.page_store.proofs.PathOrder.{comes_before-other}
 use Rattle.page_store.proofs.AllLemmas.{All-weaker, All-both, All-always, All-insert_in_order, All-raise_count, EachPair-raise_count, EachPair-insert_in_order, raised}
 
 -- bytes that are equal are one
-same_bytes : (xs ys : List ℕ) → bytes_eq xs ys ≡ true → xs ≡ ys
+pub same_bytes : (xs ys : List ℕ) → bytes_eq xs ys ≡ true → xs ≡ ys
 same_bytes xs ys h = (bytes_eq-Decides xs ys).0 h
 
 -- and one text equals itself
-bytes_eq-self : (xs : List ℕ) → bytes_eq xs xs ≡ true
+pub bytes_eq-self : (xs : List ℕ) → bytes_eq xs xs ≡ true
 bytes_eq-self xs = (bytes_eq-Decides xs xs).1 refl
 
 -- where nothing is found, each element fails the test

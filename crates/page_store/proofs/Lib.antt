@@ -2,3 +2,4 @@ pub mod PathOrder
 pub mod Leading
 pub mod AllLemmas
 pub mod InsertLemmas
+pub mod AddLemmas

@@ -36,7 +36,7 @@ filter_none test [] all = refl
 filter_none test (x ∷ xs) all = rw all.0 (filter_none test xs all.1)
 
 -- nothing is found where nothing comes of it
-none_from_map : {X Y : Type 0} (f : X → Y) (o : Option X) → option_map f o ≡ None → o ≡ None
+pub none_from_map : {X Y : Type 0} (f : X → Y) (o : Option X) → option_map f o ≡ None → o ≡ None
 none_from_map f None h = refl
 none_from_map f (Some x) h = cc
 
@@ -49,7 +49,7 @@ raised-id parent row = by (is_parent row.id parent)
     by false = refl
 
 -- the id of what is found, with a raised count
-id_of_raised : (parent : Option ℕ) (o : Option Page) → option_map (λ (r : Page). r.id) (option_map (raised parent) o) ≡ option_map (λ (r : Page). r.id) o
+pub id_of_raised : (parent : Option ℕ) (o : Option Page) → option_map (λ (r : Page). r.id) (option_map (raised parent) o) ≡ option_map (λ (r : Page). r.id) o
 id_of_raised parent None = refl
 id_of_raised parent (Some row) = ap Some (raised-id parent row)
 

@@ -3,3 +3,5 @@ pub mod Leading
 pub mod AllLemmas
 pub mod InsertLemmas
 pub mod AddLemmas
+pub mod SeenLemmas
+pub mod KeptLemmas

@@ -1,5 +1,5 @@
 -- How the store keeps its rows: by id, with the ids in path order, and the kids of each page by slug.
-use Rattle.std.specs.Prelude.{◌≡◌, ℕ, Bool, nat_eq, ◌&&◌, Option, Some, None, List, [], ◌∷◌, map, length}
+use Rattle.std.specs.Prelude.{◌≡◌, ℕ, ◌+◌, Bool, nat_eq, ◌&&◌, Option, Some, None, List, [], ◌∷◌, map, length}
 use Rattle.std.specs.Option.{option_map, IfSome}
 use Rattle.std.specs.Str.{bytes_eq}
 use Rattle.std.specs.Map.{lookup}
@@ -32,6 +32,10 @@ kid_key parent slug = record { parent = parent; slug = slug }
 -- whether two keys are one
 abbrev pub key_eq : KidKey → KidKey → Bool
 key_eq one other = nat_eq one.parent other.parent && bytes_eq one.slug other.slug
+
+-- what is kept of a page with one child more
+abbrev pub kid_added : StoredRow → StoredRow
+kid_added stored = record stored { row = record stored.row { numchild = stored.row.numchild + 1 } }
 
 -- a row that is kept has the text of a path, and the number of its steps beside it
 pub record IsStored (stored : StoredRow) : Type 0 where

@@ -1,6 +1,7 @@
 //! The rows of all pages in path order, after django-treebeard's `MP_Node` table.
 #![tactic(auto)]
 
+mod insert;
 mod look_up;
 mod rows;
 mod search;

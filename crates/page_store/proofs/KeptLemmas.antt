@@ -6,6 +6,9 @@ use Rattle.std.specs.Option.{option_map, IfSome}
 use Rattle.std.specs.Str.{bytes_eq}
 use Rattle.std.specs.Map.{lookup}
 use Rattle.page_tree.specs.Rows.{Row, comes_before, insert_in_order, raise_count, with_kid, with_row, is_parent, row_with, kid_named}
+use Rattle.step_path.specs.Path.{steps_of}
+use Rattle.site_types.specs.Ids.{IsPageId}
+use Rattle.page_store.specs.PageRows.{parent_id, IsNewRow}
 use Rattle.page_store.specs.declared.stored.StoredRow.{StoredRow}
 use Rattle.page_store.specs.declared.stored.KidKey.{KidKey}
 use Rattle.page_store.specs.Pages.{Page, ArePages}
@@ -13,8 +16,8 @@ use Rattle.page_store.specs.Kept.{seen, rows_seen, kid_key, key_eq, kid_added, I
 use Rattle.page_store.specs.Search.{leading}
 use Rattle.page_store.proofs.PathOrder.{comes_before-not_back, comes_before-other}
 use Rattle.page_store.proofs.AllLemmas.{All-weaker, All-raise_count, raised}
-use Rattle.page_store.proofs.InsertLemmas.{same_bytes, all_fail_from_find, find-raise_count, find-insert_fails, find-insert_passes}
-use Rattle.page_store.proofs.AddLemmas.{CanBeAdded, none_from_map, id_of_raised, raised-id, are_pages-with_row}
+use Rattle.page_store.proofs.InsertLemmas.{same_bytes, other_ids, all_fail_from_find, find-raise_count, find-insert_fails, find-insert_passes}
+use Rattle.page_store.proofs.AddLemmas.{CanBeAdded, parent_is_page, none_from_map, id_of_raised, raised-id, are_pages-with_row}
 use Rattle.page_store.proofs.SeenLemmas.{rows_seen-kept}
 
 -- a raised count leaves the path
@@ -140,3 +143,32 @@ module _ (stored later : List (ℕ × StoredRow)) (order : List ℕ) (kids more_
     named = all_named;
     are_pages = are_pages-with_row pages (seen new) p kept.are_pages can;
   }
+
+-- A new row below its parent: what the store keeps after the parent's count is raised and the row, its slug and its
+-- place are put in.
+pub insert_kept : (stored mid later : List (ℕ × StoredRow)) (order : List ℕ) (kids more_kids : List (KidKey × ℕ)) (pages : List Page) (new : StoredRow) (p : ℕ)
+    → IsKept stored order kids pages → IsNewRow pages new.row → parent_id (steps_of new.row.path) pages ≡ Some p → new.parent ≡ Some p → IsPageId new.row.id
+    → ((id : ℕ) → lookup (nat_eq id) mid ≡ cond (nat_eq p id) (option_map kid_added (lookup (nat_eq p) stored)) (lookup (nat_eq id) stored))
+    → ((id : ℕ) → lookup (nat_eq id) later ≡ cond (nat_eq new.row.id id) (Some new) (lookup (nat_eq id) mid))
+    → ((key : KidKey) → lookup (key_eq key) more_kids ≡ cond (key_eq (kid_key p new.row.slug) key) (Some new.row.id) (lookup (key_eq key) kids))
+    → IsKept later (insert order (leading (λ row. comes_before row.path (steps_of new.row.path)) pages) new.row.id) more_kids (with_row (seen new) pages)
+insert_kept stored mid later order kids more_kids pages new p kept is found parent fits raises stores names = by (lookup (nat_eq p) stored) refl
+  where
+    can : CanBeAdded pages (seen new) p
+    can = record {
+      path_is = is.path_is.path;
+      id_fits = fits;
+      new_id = is.new_id;
+      new_path = is.new_path;
+      parent_is = parent;
+      found_parent = found;
+      free_slug = rw found at is.free_slug;
+      childless = is.childless;
+    }
+    by : (o : Option StoredRow) → lookup (nat_eq p) stored ≡ o → IsKept later (insert order (leading (λ row. comes_before row.path (steps_of new.row.path)) pages) new.row.id) more_kids (with_row (seen new) pages)
+    by None e =
+        let none : row_with p pages ≡ None = kept.found p ∙ ap (option_map seen) e in
+        absurd (parent_is_page (steps_of new.row.path) pages p p (other_ids p pages none) found refl)
+    by (Some above) e =
+        kept-with_row stored later order kids more_kids pages new above p kept can (record { path_is = is.path_is; depth_is = is.depth_is }) e
+            (λ id. stores id ∙ ap (λ o. cond (nat_eq new.row.id id) (Some new) o) (raises id ∙ ap (λ o. cond (nat_eq p id) (option_map kid_added o) (lookup (nat_eq id) stored)) e)) names

@@ -5,3 +5,4 @@ pub mod InsertLemmas
 pub mod AddLemmas
 pub mod SeenLemmas
 pub mod KeptLemmas
+pub mod RootLemmas

@@ -8,7 +8,7 @@ use Rattle.step_path.specs.Path.{steps_of, IsPathText}
 use Rattle.site_types.specs.declared.body.Body.{Body}
 use Rattle.page_store.specs.declared.stored.StoredRow.{StoredRow}
 use Rattle.page_store.specs.declared.stored.KidKey.{KidKey}
-use Rattle.page_store.specs.PageRows.{seen_row}
+use Rattle.page_store.specs.PageRows.{seen_row, root_rows}
 use Rattle.page_store.specs.Pages.{Page, ArePages}
 
 -- what is kept of a page, as a row
@@ -49,3 +49,8 @@ pub record IsKept (stored : List (ℕ × StoredRow)) (order : List ℕ) (kids : 
   pub texts : (id : ℕ) → IfSome (lookup (nat_eq id) stored) IsStored
   pub named : (parent : ℕ) (slug : List ℕ) → lookup (key_eq (kid_key parent slug)) kids ≡ kid_named parent slug pages
   pub are_pages : ArePages pages
+
+-- what is kept of the root of a new tree
+pub record IsRootPage (page : StoredRow) : Type 0 where
+  pub row_is : seen page ∷ [] ≡ root_rows
+  pub is_stored : IsStored page

@@ -77,6 +77,7 @@ impl Rows {
         requires there { IsSome (parent_id (steps_of path.now) self.now.pages) }
         ensures { parent_id (steps_of path.now) self.now.pages ≡ Some result }
     {
+        let _ = &self.order;
         let above = above_text(path);
         let place = self.place_of(above.as_slice());
         match self.at(place) {

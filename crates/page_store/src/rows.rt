@@ -1,11 +1,7 @@
 //! The rows of all pages, kept by id, in path order, and by slug.
-ghost use Rattle.std.specs.Prelude.{◌≡◌, IfOk};
-ghost use Rattle.page_store.specs.PageRows.{root_rows};
-
 use crate::stored::{KidKey, StoredRow};
 use indexmap::IndexMap;
-use site_types::{Body, NoMemory, PageId, PageRow, PathText, Slug, Url, UserId};
-use std::alloc::Global;
+use site_types::PageId;
 use std::marker::Model;
 
 /// The rows of all pages in path order, with their URLs, and room for more.

@@ -3,12 +3,14 @@ use Rattle.std.specs.Prelude.{◌≡◌, ℕ, ◌+◌, Bool, nat_eq, ◌&&◌, O
 use Rattle.std.specs.Option.{option_map, IfSome}
 use Rattle.std.specs.Str.{bytes_eq}
 use Rattle.std.specs.Map.{lookup}
+use Rattle.page_tree.specs.Walk.{SLASH}
 use Rattle.page_tree.specs.Rows.{Row, row_with, kid_named}
-use Rattle.step_path.specs.Path.{steps_of, IsPathText}
+use Rattle.step_path.specs.Path.{path_text, steps_of, IsPathText}
+use Rattle.site_types.specs.RootBody.{root_body}
 use Rattle.site_types.specs.declared.body.Body.{Body}
 use Rattle.page_store.specs.declared.stored.StoredRow.{StoredRow}
 use Rattle.page_store.specs.declared.stored.KidKey.{KidKey}
-use Rattle.page_store.specs.PageRows.{seen_row, root_rows}
+use Rattle.page_store.specs.PageRows.{seen_row}
 use Rattle.page_store.specs.Pages.{Page, ArePages}
 
 -- what is kept of a page, as a row
@@ -52,5 +54,11 @@ pub record IsKept (stored : List (ℕ × StoredRow)) (order : List ℕ) (kids : 
 
 -- what is kept of the root of a new tree
 pub record IsRootPage (page : StoredRow) : Type 0 where
-  pub row_is : seen page ∷ [] ≡ root_rows
-  pub is_stored : IsStored page
+  pub id_is : page.row.id ≡ 1
+  pub no_parent : page.parent ≡ None
+  pub path_is : page.row.path ≡ path_text (1 ∷ [])
+  pub depth_is : page.row.depth ≡ 1
+  pub url_is : page.url ≡ SLASH ∷ []
+  pub no_slug : page.row.slug ≡ []
+  pub no_kids : page.row.numchild ≡ 0
+  pub body_is : page.row.body ≡ root_body

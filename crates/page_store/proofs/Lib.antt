@@ -6,3 +6,4 @@ pub mod AddLemmas
 pub mod SeenLemmas
 pub mod KeptLemmas
 pub mod RootLemmas
+pub mod RangeLemmas

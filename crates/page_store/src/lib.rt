@@ -3,6 +3,7 @@
 
 mod insert;
 mod look_up;
+mod range;
 mod root;
 mod rows;
 mod search;

@@ -1,13 +1,13 @@
 -- The rows that begin with a page's path stand together behind it.
-use Rattle.std.proofs.Common.{◌≡◌, ℕ, suc, ◌+◌, ◌-◌, ◌<◌, ◌≤◌, Bool, true, false, cond, nat_eq, nat_lt, ◌&&◌, List, [], ◌∷◌, ◌++◌, Option, Some, None, IsSome, map, find, length, take, drop, slice_get, refl, ap, sym, ◌∙◌, subst, arith, add-one, length-drop, rules}
+use Rattle.std.proofs.Common.{◌≡◌, ℕ, suc, ◌+◌, ◌-◌, ◌<◌, ◌≤◌, Bool, true, false, cond, nat_eq, nat_lt, ◌&&◌, List, [], ◌∷◌, ◌++◌, Option, Some, None, IsSome, map, find, length, take, drop, slice_get, get_or, refl, ap, sym, ◌∙◌, subst, arith, add-one, length-drop, rules}
 use Prim.Native.Nat.{zero}
 use Rattle.std.proofs.lemmas.Bool.Decides.{nat_tests}
-use Rattle.std.proofs.lemmas.List.{drop-drop}
+use Rattle.std.proofs.lemmas.List.{drop-drop, take_rest}
 use Rattle.std.proofs.lemmas.Option.{slice_get-map}
 use Rattle.std.specs.List.{AllByRecursion}
-use Rattle.std.specs.Option.{option_map}
+use Rattle.std.specs.Option.{option_map, IfSome}
 use Rattle.std.specs.Map.{lookup}
-use Rattle.page_tree.specs.Rows.{comes_before}
+use Rattle.page_tree.specs.Rows.{comes_before, row_with}
 use Rattle.step_path.specs.Path.{steps_of, BeginsWith}
 use Rattle.page_store.specs.declared.stored.StoredRow.{StoredRow}
 use Rattle.page_store.specs.declared.stored.KidKey.{KidKey}
@@ -103,11 +103,17 @@ range_at pages row place n order at is within =
     }
   where
     fails : (other : Page) → begins row.path other.path ≡ false → BeginsWith row.path other.path → ⊥
-    fails other fails h = let passes = begins-BeginsWith row.path other.path h in cc
+    fails other not h = let passes = begins-BeginsWith row.path other.path h in cc
     behind : AllByRecursion (λ other. begins row.path other.path ≡ false) (drop (leading (λ other. begins row.path other.path) (drop (suc place) pages)) (drop (suc place) pages)) → AllByRecursion (λ other. BeginsWith row.path other.path → ⊥) (drop (place + suc n) pages)
     behind all =
         let same : place + suc n ≡ suc place + n = omega arith in
         rw (same, ← drop-drop n (suc place) pages, is) (All-weaker (λ other. begins row.path other.path ≡ false) (λ other. BeginsWith row.path other.path → ⊥) fails _ all)
+
+-- an element that was read is the one at the place
+read_at : (xs : List ℕ) (n x : ℕ) → n < length xs → x ≡ get_or xs n x → slice_get xs n ≡ Some x
+read_at [] n x within is = absurd (omega arith)
+read_at (y ∷ xs) zero x within is = ap Some (sym is)
+read_at (y ∷ xs) (suc n) x within is = read_at xs n x (omega arith) is
 
 module _ (stored : List (ℕ × StoredRow)) (order : List ℕ) (kids : List (KidKey × ℕ)) (pages : List Page) (kept : IsKept stored order kids pages) where
   -- what is kept of the page at a place
@@ -127,3 +133,60 @@ module _ (stored : List (ℕ × StoredRow)) (order : List ℕ) (kids : List (Kid
       rw (← kept.ids, drop-map (λ (r : Page). r.id) (suc place) pages)
       (PassFirst-map (λ (row : Page). row.id) (is_front Below row.path stored) (λ other. begins row.path other.path) (drop (suc place) pages)
           (All-drop (λ other. is_front Below row.path stored other.id ≡ begins row.path other.path) (suc place) pages (fronts stored order kids pages kept Below row.path)) (below_first row (drop (suc place) pages) parts.0 parts.1))
+
+  -- the row of the page whose id was read at a place
+  pub row_at : (place id : ℕ) (page : StoredRow) → place < length order → id ≡ get_or order place id → Some page ≡ lookup (nat_eq id) stored → slice_get pages place ≡ Some (seen page)
+  row_at place id page within is found = by (slice_get pages place) refl (sym (slice_get-map (λ (r : Page). r.id) pages place) ∙ ap (λ ids. slice_get ids place) kept.ids ∙ read_at order place id within is)
+    where
+      by : (o : Option Page) → slice_get pages place ≡ o → option_map (λ (r : Page). r.id) o ≡ Some id → slice_get pages place ≡ Some (seen page)
+      by None e h = cc
+      by (Some row) e h =
+          let one : row.id ≡ id = cc in
+          let own = kept_at place row e in
+          let mine : option_map seen (lookup (nat_eq id) stored) ≡ Some row = rw (← one) own in
+          let theirs : Some (seen page) ≡ option_map seen (lookup (nat_eq id) stored) = ap (option_map seen) found in
+          e ∙ sym mine ∙ sym theirs
+
+  -- a page whose id was read at a place is kept
+  pub kept_is_there : (place id : ℕ) → place < length order → id ≡ get_or order place id → None ≡ lookup (nat_eq id) stored → ⊥
+  kept_is_there place id within is none = by (slice_get pages place) refl (sym (slice_get-map (λ (r : Page). r.id) pages place) ∙ ap (λ ids. slice_get ids place) kept.ids ∙ read_at order place id within is)
+    where
+      by : (o : Option Page) → slice_get pages place ≡ o → option_map (λ (r : Page). r.id) o ≡ Some id → ⊥
+      by None e h = cc
+      by (Some row) e h =
+          let one : row.id ≡ id = cc in
+          let own = kept_at place row e in
+          let mine : option_map seen (lookup (nat_eq id) stored) ≡ Some row = rw (← one) own in
+          let theirs : None ≡ option_map seen (lookup (nat_eq id) stored) = ap (option_map seen) none in
+          let never : None ≡ Some row = theirs ∙ mine in cc
+
+  -- the pages behind a place, as a slice of the order, of which those below the page at the place stand first
+  pub slice_first : (place : ℕ) (page : StoredRow) (text xs : List ℕ) → xs ≡ order → text ≡ page.row.path → slice_get pages place ≡ Some (seen page) → PassFirst (is_front Below (steps_of text) stored) (take (length xs - (place + 1)) (drop (place + 1) xs))
+  slice_first place page text xs is same at = rw (take_rest xs (place + 1), is, same, add-one place) (belows_first place (seen page) at)
+
+  -- how many they are
+  pub slice_count : (place : ℕ) (page : StoredRow) (text xs : List ℕ) → xs ≡ order → text ≡ page.row.path → leading (is_front Below (steps_of text) stored) (take (length xs - (place + 1)) (drop (place + 1) xs)) ≡ leading (λ other. begins (seen page).path other.path) (drop (place + 1) pages)
+  slice_count place page text xs is same = rw (take_rest xs (place + 1), is, same) (below_found (steps_of page.row.path) (place + 1))
+
+-- a count of the front of a slice stays within the list
+pub slice_within : {X : Type 0} (test : X → Bool) (xs : List X) (place : ℕ) → place < length xs → place + 1 + leading test (take (length xs - (place + 1)) (drop (place + 1) xs)) ≤ length xs
+slice_within test xs place within =
+    let few = leading-le-length test (take (length xs - (place + 1)) (drop (place + 1) xs)) in
+    let same : length (take (length xs - (place + 1)) (drop (place + 1) xs)) ≡ length xs - (place + 1) = ap length (take_rest xs (place + 1)) ∙ length-drop (place + 1) xs in
+    omega arith
+
+-- where there is an element, the place is within the list
+pub within_from_get : {X : Type 0} (xs : List X) (n : ℕ) (x : X) → slice_get xs n ≡ Some x → n < length xs
+within_from_get [] n x h = cc
+within_from_get (y ∷ xs) zero x h = omega arith
+within_from_get (y ∷ xs) (suc n) x h = let more = within_from_get xs n x h in omega arith
+
+-- the range of a page that is found
+pub range_is : (pages : List Page) (id place end : ℕ) (row : Page) → EachPair IsBefore pages → row_with id pages ≡ Some row → place ≡ leading (λ other. comes_before other.path row.path) pages → ((row : Page) → slice_get pages place ≡ Some row → end ≡ place + 1 + leading (λ other. begins row.path other.path) (drop (place + 1) pages)) → end ≤ length pages → IfSome (row_with id pages) (λ row. IsRange pages row place (end - place))
+range_is pages id place end row order found is ends within =
+    let at : slice_get pages place ≡ Some row = rw is (own_place (λ (r : Page). nat_eq r.id id) pages row order found) in
+    let n = leading (λ other. begins row.path other.path) (drop (place + 1) pages) in
+    let last : end ≡ place + 1 + n = ends row at in
+    let size : end - place ≡ suc n = omega arith in
+    let count : n ≡ leading (λ other. begins row.path other.path) (drop (suc place) pages) = rw add-one refl in
+    rw (found, size) (range_at pages row place n order at count (omega arith))

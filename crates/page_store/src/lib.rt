@@ -10,3 +10,6 @@ mod search;
 mod stored;
 
 pub use rows::Rows;
+
+#[cfg(test)]
+mod tests;

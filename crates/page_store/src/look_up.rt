@@ -33,7 +33,8 @@ impl Rows {
     pub fn url(&self, id: PageId) -> Option<&Url>
         ensures { option_copied result ≡ option_map (λ row. row.url) (row_with id self.now.pages) }
     {
-        match self.stored.get(&id) {
+        let found = self.stored.get(&id);
+        match found {
             Some(stored) => Some(&stored.url),
             None => None,
         }

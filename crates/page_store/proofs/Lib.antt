@@ -7,3 +7,4 @@ pub mod SeenLemmas
 pub mod KeptLemmas
 pub mod RootLemmas
 pub mod RangeLemmas
+pub mod WindowLemmas

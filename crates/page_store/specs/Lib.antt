@@ -2,3 +2,4 @@ pub mod PageRows
 pub mod Pages
 pub mod Kept
 pub mod Search
+pub mod KidWalk

@@ -46,7 +46,7 @@ ids_inserted new parent (row ∷ rows) differ = by (comes_before row.path new.pa
         kept_ids (row ∷ rows) = rw (raised-id parent row) (ap (λ ids. row.id ∷ ids) (kept_ids rows))
 
 -- what is found passes the test
-found_passes : {X : Type 0} (test : X → Bool) (xs : List X) (x : X) → find test xs ≡ Some x → test x ≡ true
+pub found_passes : {X : Type 0} (test : X → Bool) (xs : List X) (x : X) → find test xs ≡ Some x → test x ≡ true
 found_passes test [] x h = cc
 found_passes test (y ∷ xs) x h = by (test y) refl h (found_passes test xs x)
   where

@@ -8,3 +8,4 @@ pub mod KeptLemmas
 pub mod RootLemmas
 pub mod RangeLemmas
 pub mod WindowLemmas
+pub mod KidLemmas

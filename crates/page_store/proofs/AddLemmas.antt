@@ -96,7 +96,7 @@ parent_is_page path pages n q others is same = by pages others is
         cases false is more = more is
 
 -- a page that is not there has no kids
-no_kids : (n : ℕ) (pages : List Page) → AllByRecursion (λ row. row.id ≡ n → ⊥) pages → AllByRecursion (λ row. row.parent ≡ parent_id row.path pages) pages → AllByRecursion (λ row. is_parent n row.parent ≡ false) pages
+pub no_kids : (n : ℕ) (pages : List Page) → AllByRecursion (λ row. row.id ≡ n → ⊥) pages → AllByRecursion (λ row. row.parent ≡ parent_id row.path pages) pages → AllByRecursion (λ row. is_parent n row.parent ≡ false) pages
 no_kids n pages others parents =
     All-weaker (λ row. row.parent ≡ parent_id row.path pages) (λ row. is_parent n row.parent ≡ false) (λ row is. by row.path row.parent (sym is)) pages parents
   where

@@ -4,7 +4,7 @@ use Prim.Native.Nat.{zero}
 use Rattle.std.proofs.lemmas.Bool.Decides.{nat_tests}
 use Rattle.std.proofs.lemmas.List.{drop-drop, take-append-drop, append-nil}
 use Rattle.std.specs.List.{AllByRecursion}
-use Rattle.std.specs.Option.{option_map}
+use Rattle.std.specs.Option.{option_map, IfSome}
 use Rattle.std.specs.Str.{bytes_eq}
 use Rattle.page_tree.specs.Rows.{Row, comes_before, row_with, is_parent, kids_in}
 use Rattle.step_path.specs.Path.{IsPath, BeginsWith}
@@ -15,7 +15,8 @@ use Rattle.page_store.specs.KidWalk.{kids_between, IsKidPlace, IsKidWalk}
 use Rattle.page_store.proofs.PathOrder.{comes_before-self, comes_before-trans, begins-self, BeginsWith-begins, begins-BeginsWith}
 use Rattle.page_store.proofs.Leading.{leading_pass, others_fail}
 use Rattle.page_store.proofs.AllLemmas.{All-weaker, All-both}
-use Rattle.page_store.proofs.InsertLemmas.{same_bytes}
+use Rattle.page_store.proofs.InsertLemmas.{same_bytes, other_ids}
+use Rattle.page_store.proofs.AddLemmas.{no_kids}
 use Rattle.page_store.proofs.KeptLemmas.{found_passes}
 use Rattle.page_store.proofs.SeenLemmas.{found_by_own_id, All-find}
 use Rattle.page_store.proofs.RangeLemmas.{All-at, All-drop, drop_at_place, pairs_at, below_first}
@@ -148,6 +149,48 @@ module _ (pages : List Page) (are : ArePages pages) where
     first_kid : (row : Page) → slice_get pages (top_place + 1) ≡ Some row → top_place + 1 < top_place + size → row.parent ≡ Some top.id
     first_kid row at high = kid_inside (top_place + 1) row at (omega arith) high (λ q j a b more there is path low behind. absurd (omega arith))
 
+    -- the range has the page itself
+    size_some : (n : ℕ) × (size ≡ suc n)
+    size_some = by size refl
+      where
+        by : (m : ℕ) → size ≡ m → (n : ℕ) × (size ≡ suc n)
+        by zero e =
+            let same : top_place + size ≡ top_place = omega arith in
+            let outside = All-behind (λ other. BeginsWith top.path other.path → ⊥) pages (top_place + size) top_place top range.after range.page (omega arith) in
+            absurd (outside (BeginsWith-begins top.path top.path (begins-self top.path)))
+        by (suc n) e = (n, e)
+
+    -- rows that do not begin with the page's path are no kids
+    no_kids_outside : (rows : List Page) → AllByRecursion (λ row. BeginsWith top.path row.path → ⊥) rows → AllByRecursion (λ row. is_parent top.id row.parent ≡ true → (above row.path ≡ top.path) × (0 < length row.path)) rows → AllByRecursion (λ row. is_parent top.id row.parent ≡ false) rows
+    no_kids_outside rows outside below =
+        All-both (λ row. BeginsWith top.path row.path → ⊥) (λ row. is_parent top.id row.parent ≡ true → (above row.path ≡ top.path) × (0 < length row.path)) (λ row. is_parent top.id row.parent ≡ false)
+            (λ row out is. fails_from (is_parent top.id row.parent) (λ test. out (begins_above row.path (is test).0 (is test).1))) rows outside below
+
+    -- no page is its own kid
+    not_own_kid : is_parent top.id top.parent ≡ false
+    not_own_kid =
+        fails_from (is_parent top.id top.parent)
+            (λ test.
+              let is = All-at (λ (row : Page). is_parent top.id row.parent ≡ true → (above row.path ≡ top.path) × (0 < length row.path)) top_place pages top kids_below range.page test in
+              let last = last_step_of top.path is.1 in
+              let long : length top.path ≡ length top.path + 1 = ap length last.1 ∙ length-append (above top.path) (last.0 ∷ []) ∙ ap (λ (path : List ℕ). length path + 1) is.0 in
+              omega arith)
+
+    -- all kids stand in the page's subtree
+    kids_between-all : kids_between top.id (top_place + 1) (top_place + size) pages ≡ kids_in top.id pages
+    kids_between-all =
+        let n = size_some.0 in
+        let size_is = size_some.1 in
+        let behind = drop (suc top_place) pages in
+        let count : top_place + size - (top_place + 1) ≡ n = omega arith in
+        let end : suc top_place + n ≡ top_place + size = omega arith in
+        let first = kids_in-skip top.id (take top_place pages) (drop top_place pages) (no_kids_outside (take top_place pages) range.before (All-take (λ row. is_parent top.id row.parent ≡ true → (above row.path ≡ top.path) × (0 < length row.path)) top_place pages kids_below)) in
+        let here : kids_in top.id (drop top_place pages) ≡ kids_in top.id behind = rw (drop_at_place top_place pages top range.page, not_own_kid) refl in
+        let others = no_kids_outside (drop (top_place + size) pages) range.after (All-drop (λ row. is_parent top.id row.parent ≡ true → (above row.path ≡ top.path) × (0 < length row.path)) (top_place + size) pages kids_below) in
+        let last = kids_in-stop top.id (take n behind) (drop n behind) (rw (drop-drop n (suc top_place) pages, end) others) in
+        rw (count, add-one top_place)
+        (sym (ap (λ rows. kids_in top.id rows) (sym (take-append-drop top_place pages)) ∙ first ∙ here ∙ ap (λ rows. kids_in top.id rows) (sym (take-append-drop n behind)) ∙ last))
+
     module _ (place : ℕ) (kid : Page) (at : slice_get pages place ≡ Some kid) (low : top_place < place) (high : place < top_place + size) (is_kid : kid.parent ≡ Some top.id) where
       -- how many rows are below the kid
       abbrev below_kid : ℕ
@@ -223,3 +266,65 @@ module _ (pages : List Page) (are : ArePages pages) where
           let test : is_parent top.id kid.parent ≡ true = rw is_kid self in
           rw (drop_at_place place pages kid at, count, test)
           (ap (λ ids. kid.id ∷ ids) (ap (λ rows. kids_in top.id rows) (take_parts below_kid rest (drop (suc place) pages)) ∙ kids_in-skip top.id (take below_kid (drop (suc place) pages)) (take rest (drop below_kid (drop (suc place) pages))) none_below ∙ ap (λ rows. kids_in top.id (take rest rows)) (drop-drop below_kid (suc place) pages)))
+
+-- a walk at its end has no kids left
+pub kids_between-none : (parent place end : ℕ) (pages : List Page) → end ≤ place → kids_between parent place end pages ≡ []
+kids_between-none parent place end pages h = let none : end - place ≡ 0 = omega arith in rw none refl
+
+-- a walk that is over
+pub walk_over : (pages : List Page) (parent end : ℕ) → ArePages pages → end ≤ length pages → IsKidWalk pages parent end end
+walk_over pages parent end are within = record { are_pages = are; within = within; at_kid = λ low. absurd (omega arith) }
+
+-- a page that is not there has no kids
+pub kids_of_none : (pages : List Page) (id : ℕ) → ArePages pages → (IsSome (row_with id pages) → ⊥) → kids_in id pages ≡ []
+kids_of_none pages id are absent = by (row_with id pages) refl
+  where
+    by : (o : Option Page) → row_with id pages ≡ o → kids_in id pages ≡ []
+    by None e =
+        let none = no_kids id pages (other_ids id pages e) are.parents in
+        ap (λ rows. kids_in id rows) (sym (append-nil pages)) ∙ kids_in-skip id pages [] none
+    by (Some row) e = absurd (absent (rw e (search rules)))
+
+-- a walk begins behind its page, at the first row of its subtree
+pub walk_starts : (pages : List Page) (id place size : ℕ) → ArePages pages → IsSome (row_with id pages) → IfSome (row_with id pages) (λ row. IsRange pages row place size)
+    → IsKidWalk pages id (place + 1) (place + size) × (kids_between id (place + 1) (place + size) pages ≡ kids_in id pages)
+walk_starts pages id place size are there range = by (row_with id pages) refl there range
+  where
+    by : (o : Option Page) → row_with id pages ≡ o → IsSome o → IfSome o (λ row. IsRange pages row place size) → IsKidWalk pages id (place + 1) (place + size) × (kids_between id (place + 1) (place + size) pages ≡ kids_in id pages)
+    by None e there range = absurd (search rules)
+    by (Some top) e there range =
+        let test : nat_eq top.id id ≡ true = found_passes (λ (row : Page). nat_eq row.id id) pages top e in
+        let top_is : top.id ≡ id = grind (arith, nat_tests) in
+        ( record {
+            are_pages = are;
+            within = range.within;
+            at_kid = λ low. record { top = top; top_place = place; size = size; top_is = top_is; range = range; behind = omega arith; end_is = refl; kid_is = λ row at. first_kid pages are top place size range row at low ∙ ap Some top_is };
+          }
+        , subst (λ (p : ℕ). kids_between p (place + 1) (place + size) pages ≡ kids_in p pages) top_is (kids_between-all pages are top place size range) )
+
+-- a walk goes on behind the subtree of its kid
+pub walk_goes_on : (pages : List Page) (parent place end next id : ℕ) → IsKidWalk pages parent place end → place < end → Some id ≡ option_map (λ (row : Page). row.id) (slice_get pages place)
+    → ((row : Page) → slice_get pages place ≡ Some row → next ≡ place + 1 + leading (λ (other : Page). begins row.path other.path) (drop (place + 1) pages)) → next ≤ length pages
+    → IsKidWalk pages parent next end × (kids_between parent place end pages ≡ id ∷ kids_between parent next end pages)
+walk_goes_on pages parent place end next id walk low is ends fits = by (slice_get pages place) refl is
+  where
+    by : (o : Option Page) → slice_get pages place ≡ o → Some id ≡ option_map (λ (row : Page). row.id) o → IsKidWalk pages parent next end × (kids_between parent place end pages ≡ id ∷ kids_between parent next end pages)
+    by None e is = absurd cc
+    by (Some kid) e is =
+        let at = walk.at_kid low in
+        let are = walk.are_pages in
+        let last = at.end_is in
+        let is_kid : kid.parent ≡ Some at.top.id = at.kid_is kid e ∙ ap Some (sym at.top_is) in
+        let high : place < at.top_place + at.size = omega arith in
+        let n = leading (λ (other : Page). begins kid.path other.path) (drop (suc place) pages) in
+        let next_is : next ≡ suc place + n = rw (add-one place) at (ends kid e) in
+        let inside = next_within pages are at.top at.top_place at.size at.range place kid e at.behind high is_kid (omega arith) at.range.within in
+        let one : id ≡ kid.id = cc in
+        let kids = subst (λ (p : ℕ). kids_between p place end pages ≡ kid.id ∷ kids_between p (suc place + n) end pages) at.top_is (kids_between-next pages are at.top at.top_place at.size at.range place kid e at.behind high is_kid end (omega arith)) in
+        rw (one, next_is)
+        ( record {
+            are_pages = are;
+            within = walk.within;
+            at_kid = λ more. record { top = at.top; top_place = at.top_place; size = at.size; top_is = at.top_is; range = at.range; behind = (let before = at.behind in omega arith); end_is = last; kid_is = λ row there. next_kid pages are at.top at.top_place at.size at.range place kid e at.behind high is_kid row there (omega arith) ∙ ap Some at.top_is };
+          }
+        , kids )

@@ -2,6 +2,7 @@
 #![tactic(auto)]
 
 mod insert;
+mod kids;
 mod look_up;
 mod range;
 mod root;
@@ -9,6 +10,7 @@ mod rows;
 mod search;
 mod stored;
 
+pub use kids::Kids;
 pub use rows::Rows;
 
 #[cfg(test)]

@@ -1,11 +1,11 @@
 -- The rows of a tree with a new one among them are the rows of a tree.
-use Rattle.std.proofs.Common.{◌≡◌, ℕ, suc, ◌+◌, ◌-◌, ◌<◌, ◌≤◌, Bool, true, false, cond, nat_eq, nat_lt, ◌&&◌, List, [], ◌∷◌, ◌++◌, Option, Some, None, is_some, IsSome, map, find, filter, length, take, drop, refl, ap, sym, ◌∙◌, subst, arith, add-one, rules}
+use Rattle.std.proofs.Common.{◌≡◌, ℕ, suc, ◌+◌, ◌<◌, ◌≤◌, Bool, true, false, cond, nat_eq, ◌&&◌, List, [], ◌∷◌, Option, Some, None, IsSome, find, filter, length, refl, ap, sym, ◌∙◌, subst, arith, add-one, rules}
 use Rattle.std.proofs.lemmas.List.{length-map}
 use Rattle.std.proofs.lemmas.Bool.Decides.{nat_tests}
 use Rattle.std.specs.List.{AllByRecursion}
-use Rattle.std.specs.Option.{option_map, IfSome}
+use Rattle.std.specs.Option.{option_map}
 use Rattle.std.specs.Str.{bytes_eq}
-use Rattle.page_tree.specs.Rows.{Row, comes_before, insert_in_order, raise_count, with_kid, with_row, is_parent, row_with, kid_named, kids_in}
+use Rattle.page_tree.specs.Rows.{comes_before, raise_count, with_kid, with_row, is_parent, row_with, kid_named, kids_in}
 use Rattle.step_path.specs.Path.{IsPath}
 use Rattle.site_types.specs.Ids.{IsPageId}
 use Rattle.page_store.specs.PageRows.{above, parent_id}
@@ -67,6 +67,7 @@ apart_from_parent path own pages others some = by (bytes_eq path (above own)) re
             by : (t : Bool) → bytes_eq xs ys ≡ t → bytes_eq xs ys ≡ false
             by true e = absurd (differ (same_bytes xs ys e))
             by false e = e
+
     by : (t : Bool) → bytes_eq path (above own) ≡ t → bytes_eq path (above own) ≡ false
     by true e = absurd (let P : Option Page → Type 0 = λ o. IsSome (option_map (λ (r : Page). r.id) o) in let h = subst P (none e) some in search rules)
     by false e = e
@@ -79,9 +80,10 @@ apart_from_nothing (x ∷ path) some = refl
 -- a path that no page has is that of no page's parent
 apart_from_parents : (path : List ℕ) (pages : List Page) → 0 < length path → ArePages pages → AllByRecursion (λ other. other.path ≡ path → ⊥) pages → AllByRecursion (λ row. bytes_eq path (above row.path) ≡ false) pages
 apart_from_parents path [] some are others = tt
-apart_from_parents path (row ∷ rows) some are others =
-    ( rw are.root.0.path_is (apart_from_nothing path some)
-    , All-both (λ later. later.parent ≡ parent_id later.path (row ∷ rows)) (λ later. IsSome later.parent) (λ later. bytes_eq path (above later.path) ≡ false) (λ later is there. apart_from_parent path later.path (row ∷ rows) others (subst IsSome is there)) rows are.parents.1 are.root.1 )
+apart_from_parents path (row ∷ rows) some are others = (
+  rw are.root.0.path_is (apart_from_nothing path some),
+  All-both (λ later. later.parent ≡ parent_id later.path (row ∷ rows)) (λ later. IsSome later.parent) (λ later. bytes_eq path (above later.path) ≡ false) (λ later is there. apart_from_parent path later.path (row ∷ rows) others (subst IsSome is there)) rows are.parents.1 are.root.1,
+)
 
 -- a parent is a page
 pub parent_is_page : (path : List ℕ) (pages : List Page) (n q : ℕ) → AllByRecursion (λ row. row.id ≡ n → ⊥) pages → parent_id path pages ≡ Some q → q ≡ n → ⊥
@@ -156,7 +158,7 @@ module _ (pages : List Page) (new : Page) (p : ℕ) (are : ArePages pages) (can 
   slugs_differ =
       let none = all_fail_from_find (λ row. is_parent p row.parent && bytes_eq row.slug new.slug) pages (none_from_map (λ (r : Page). r.id) _ can.free_slug) in
       All-raise_count (λ row. row.parent ≡ new.parent → row.slug ≡ new.slug → ⊥) new.parent (λ row h. h) pages
-          (All-weaker (λ row. is_parent p row.parent && bytes_eq row.slug new.slug ≡ false) (λ row. row.parent ≡ new.parent → row.slug ≡ new.slug → ⊥) (λ row fails same slug. clash row.parent row.slug (same ∙ can.parent_is) slug fails) pages none)
+      (All-weaker (λ row. is_parent p row.parent && bytes_eq row.slug new.slug ≡ false) (λ row. row.parent ≡ new.parent → row.slug ≡ new.slug → ⊥) (λ row fails same slug. clash row.parent row.slug (same ∙ can.parent_is) slug fails) pages none)
     where
       clash : (q : Option ℕ) (slug : List ℕ) → q ≡ Some p → slug ≡ new.slug → is_parent p q && bytes_eq slug new.slug ≡ false → ⊥
       clash q slug same is fails =
@@ -171,21 +173,21 @@ module _ (pages : List Page) (new : Page) (p : ℕ) (are : ArePages pages) (can 
   all_in_order : EachPair IsBefore all
   all_in_order =
       EachPair-insert_in_order IsBefore new rest rest_in_order (All-always (λ row. comes_before new.path row.path ≡ true → IsBefore new row) (λ row h. h) rest)
-          (All-weaker (λ row. row.path ≡ new.path → ⊥) (λ row. comes_before new.path row.path ≡ false → IsBefore row new) (λ row differ h. comes_before-other new.path row.path (λ e. differ (sym e)) h) rest paths_differ) rest_in_order
+      (All-weaker (λ row. row.path ≡ new.path → ⊥) (λ row. comes_before new.path row.path ≡ false → IsBefore row new) (λ row differ h. comes_before-other new.path row.path (λ e. differ (sym e)) h) rest paths_differ) rest_in_order
 
   -- each has its own id
   all_own_ids : EachPair HasOtherId all
   all_own_ids =
       EachPair-insert_in_order HasOtherId new rest rest_in_order (All-weaker (λ row. row.id ≡ new.id → ⊥) (λ row. comes_before new.path row.path ≡ true → HasOtherId new row) (λ row differ h. differ) rest ids_differ)
-          (All-weaker (λ row. row.id ≡ new.id → ⊥) (λ row. comes_before new.path row.path ≡ false → HasOtherId row new) (λ row differ h e. differ (sym e)) rest ids_differ)
-          (EachPair-raise_count HasOtherId new.parent (λ row later h. h) (λ row later h. h) pages are.own_ids)
+      (All-weaker (λ row. row.id ≡ new.id → ⊥) (λ row. comes_before new.path row.path ≡ false → HasOtherId row new) (λ row differ h e. differ (sym e)) rest ids_differ)
+      (EachPair-raise_count HasOtherId new.parent (λ row later h. h) (λ row later h. h) pages are.own_ids)
 
   -- and its own slug below its parent
   all_own_slugs : EachPair HasOtherSlug all
   all_own_slugs =
       EachPair-insert_in_order HasOtherSlug new rest rest_in_order (All-weaker (λ row. row.parent ≡ new.parent → row.slug ≡ new.slug → ⊥) (λ row. comes_before new.path row.path ≡ true → HasOtherSlug new row) (λ row differ h. differ) rest slugs_differ)
-          (All-weaker (λ row. row.parent ≡ new.parent → row.slug ≡ new.slug → ⊥) (λ row. comes_before new.path row.path ≡ false → HasOtherSlug row new) (λ row differ h e f. differ (sym e) (sym f)) rest slugs_differ)
-          (EachPair-raise_count HasOtherSlug new.parent (λ row later h. h) (λ row later h. h) pages are.own_slugs)
+      (All-weaker (λ row. row.parent ≡ new.parent → row.slug ≡ new.slug → ⊥) (λ row. comes_before new.path row.path ≡ false → HasOtherSlug row new) (λ row differ h e f. differ (sym e) (sym f)) rest slugs_differ)
+      (EachPair-raise_count HasOtherSlug new.parent (λ row later h. h) (λ row later h. h) pages are.own_slugs)
 
   -- what a page's parent is stays as it is
   parent_id-with_row : (path : List ℕ) → bytes_eq new.path (above path) ≡ false → parent_id path all ≡ parent_id path pages
@@ -199,8 +201,8 @@ module _ (pages : List Page) (new : Page) (p : ℕ) (are : ArePages pages) (can 
       let apart = apart_from_parents new.path pages can.path_is.some are can.new_path in
       let own : bytes_eq new.path (above new.path) ≡ false = apart_from_parent new.path new.path pages can.new_path (rw can.found_parent (search rules)) in
       All-insert_in_order (λ row. row.parent ≡ parent_id row.path all) new rest (can.parent_is ∙ sym can.found_parent ∙ sym (parent_id-with_row new.path own))
-          (All-raise_count (λ row. row.parent ≡ parent_id row.path all) new.parent (λ row h. h) pages
-              (All-both (λ row. row.parent ≡ parent_id row.path pages) (λ row. bytes_eq new.path (above row.path) ≡ false) (λ row. row.parent ≡ parent_id row.path all) (λ row is fails. is ∙ sym (parent_id-with_row row.path fails)) pages are.parents apart))
+      (All-raise_count (λ row. row.parent ≡ parent_id row.path all) new.parent (λ row h. h) pages
+      (All-both (λ row. row.parent ≡ parent_id row.path pages) (λ row. bytes_eq new.path (above row.path) ≡ false) (λ row. row.parent ≡ parent_id row.path all) (λ row is fails. is ∙ sym (parent_id-with_row row.path fails)) pages are.parents apart))
 
   -- the parent has one kid more
   kids_in-with_row : (id : ℕ) → length (kids_in id all) ≡ cond (nat_eq p id) (length (kids_in id pages) + 1) (length (kids_in id pages))
@@ -218,8 +220,8 @@ module _ (pages : List Page) (new : Page) (p : ℕ) (are : ArePages pages) (can 
   all_counts : AllByRecursion (λ row. row.numchild ≡ length (kids_in row.id all)) all
   all_counts =
       All-insert_in_order (λ row. row.numchild ≡ length (kids_in row.id all)) new rest (can.childless ∙ sym none)
-          (All-map (λ row. row.numchild ≡ length (kids_in row.id all)) (raised new.parent) pages
-              (All-weaker (λ row. row.numchild ≡ length (kids_in row.id pages)) (λ row. (raised new.parent row).numchild ≡ length (kids_in (raised new.parent row).id all)) (λ row is. rw (raised-id new.parent row) (count row is)) pages are.counts))
+      (All-map (λ row. row.numchild ≡ length (kids_in row.id all)) (raised new.parent) pages
+      (All-weaker (λ row. row.numchild ≡ length (kids_in row.id pages)) (λ row. (raised new.parent row).numchild ≡ length (kids_in (raised new.parent row).id all)) (λ row is. rw (raised-id new.parent row) (count row is)) pages are.counts))
     where
       none : length (kids_in new.id all) ≡ 0
       none =
@@ -227,6 +229,7 @@ module _ (pages : List Page) (new : Page) (p : ℕ) (are : ArePages pages) (can 
           let differ = parent_is_page new.path pages new.id p others can.found_parent in
           let test : nat_eq p new.id ≡ false = grind (arith, nat_tests) in
           kids_in-with_row new.id ∙ rw (test, length-map) (filter_none (λ (row : Page). is_parent new.id row.parent) pages (no_kids new.id pages others are.parents))
+
       count : (row : Page) → row.numchild ≡ length (kids_in row.id pages) → (raised new.parent row).numchild ≡ length (kids_in row.id all)
       count row is = counted new.parent row (length (kids_in row.id pages)) (length (kids_in row.id all)) (nat_eq p row.id) (rw can.parent_is refl) is (kids_in-with_row row.id)
 

@@ -1,7 +1,7 @@
 -- What holds of each row, or of each pair of rows, of a list into which a row is put in path order.
-use Rattle.std.proofs.Common.{◌≡◌, ℕ, Bool, true, false, cond, List, [], ◌∷◌, ◌++◌, Option, map, take, drop, refl, ap, sym, ◌∙◌}
+use Rattle.std.proofs.Common.{◌≡◌, ℕ, Bool, true, false, cond, List, [], ◌∷◌, ◌++◌, Option, map, refl}
 use Rattle.std.specs.List.{AllByRecursion}
-use Rattle.page_tree.specs.Rows.{Row, comes_before, insert_in_order, raise_count, with_kid, with_row, is_parent}
+use Rattle.page_tree.specs.Rows.{comes_before, insert_in_order, raise_count, with_kid, is_parent}
 use Rattle.page_store.specs.Pages.{Page, EachPair, IsBefore}
 use Rattle.page_store.proofs.PathOrder.{comes_before-trans}
 

@@ -1,16 +1,13 @@
 -- A new row put among the rows of a store: they are again the rows of a tree.
-use Rattle.std.proofs.Common.{◌≡◌, ℕ, suc, ◌+◌, ◌-◌, ◌<◌, ◌≤◌, Bool, true, false, cond, nat_eq, ◌&&◌, List, [], ◌∷◌, ◌++◌, Option, Some, None, is_some, IsSome, map, find, filter, length, take, drop, refl, ap, sym, ◌∙◌, subst, arith}
+use Rattle.std.proofs.Common.{◌≡◌, ℕ, suc, Bool, true, false, cond, nat_eq, List, [], ◌∷◌, Option, Some, None, find, filter, length, refl, ap, arith}
 use Rattle.std.proofs.lemmas.Bool.Decides.{nat_tests}
 use Rattle.std.proofs.lemmas.Slice.Eq.{bytes_eq-Decides}
 use Rattle.std.specs.List.{AllByRecursion}
-use Rattle.std.specs.Option.{option_map, IfSome}
+use Rattle.std.specs.Option.{option_map}
 use Rattle.std.specs.Str.{bytes_eq}
-use Rattle.page_tree.specs.Rows.{Row, comes_before, insert_in_order, raise_count, with_kid, with_row, is_parent, row_with, kid_named, kids_in}
-use Rattle.step_path.specs.Path.{IsPath}
-use Rattle.page_store.specs.PageRows.{above, parent_id}
-use Rattle.page_store.specs.Pages.{Page, EachPair, IsBefore, HasOtherId, HasOtherSlug, IsRootRow, StartsAtRoot, ArePages}
-use Rattle.page_store.proofs.PathOrder.{comes_before-other}
-use Rattle.page_store.proofs.AllLemmas.{All-weaker, All-both, All-always, All-insert_in_order, All-raise_count, EachPair-raise_count, EachPair-insert_in_order, raised}
+use Rattle.page_tree.specs.Rows.{comes_before, insert_in_order, raise_count, with_kid, is_parent, row_with}
+use Rattle.page_store.specs.Pages.{Page}
+use Rattle.page_store.proofs.AllLemmas.{All-weaker, raised}
 
 -- bytes that are equal are one
 pub same_bytes : (xs ys : List ℕ) → bytes_eq xs ys ≡ true → xs ≡ ys
@@ -36,7 +33,6 @@ other_ids id pages none =
 
 -- one step of a search by path and one of a search by any test of what a raised count keeps
 module _ (test : Page → Bool) (keeps : (row : Page) → test (with_kid row) ≡ test row) where
-
   -- a raised count changes no search by it
   pub find-raise_count : (parent : Option ℕ) (rows : List Page) → find test (raise_count parent rows) ≡ option_map (raised parent) (find test rows)
   find-raise_count parent [] = refl

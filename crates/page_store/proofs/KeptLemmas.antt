@@ -1,24 +1,23 @@
 -- A new page put into what the store keeps.
-use Rattle.std.proofs.Common.{◌≡◌, ℕ, suc, ◌+◌, ◌-◌, ◌<◌, ◌≤◌, Bool, true, false, cond, nat_eq, nat_lt, ◌&&◌, List, [], ◌∷◌, ◌++◌, Option, Some, None, is_some, IsSome, map, find, filter, length, take, drop, insert, refl, ap, sym, ◌∙◌, subst, arith, add-one, rules}
+use Rattle.std.proofs.Common.{◌≡◌, ℕ, Bool, true, false, cond, nat_eq, ◌&&◌, List, [], ◌∷◌, Option, Some, None, map, find, insert, refl, ap, sym, ◌∙◌, arith, add-one}
 use Rattle.std.proofs.lemmas.Bool.Decides.{nat_tests}
 use Rattle.std.specs.List.{AllByRecursion}
 use Rattle.std.specs.Option.{option_map, IfSome}
 use Rattle.std.specs.Str.{bytes_eq}
 use Rattle.std.specs.Map.{lookup}
-use Rattle.page_tree.specs.Rows.{Row, comes_before, insert_in_order, raise_count, with_kid, with_row, is_parent, row_with, kid_named}
+use Rattle.page_tree.specs.Rows.{comes_before, insert_in_order, raise_count, with_kid, with_row, is_parent, row_with, kid_named}
 use Rattle.step_path.specs.Path.{steps_of}
 use Rattle.site_types.specs.Ids.{IsPageId}
 use Rattle.page_store.specs.PageRows.{parent_id, IsNewRow}
 use Rattle.page_store.specs.declared.stored.StoredRow.{StoredRow}
 use Rattle.page_store.specs.declared.stored.KidKey.{KidKey}
-use Rattle.page_store.specs.Pages.{Page, ArePages}
-use Rattle.page_store.specs.Kept.{seen, rows_seen, kid_key, key_eq, kid_added, IsStored, IsKept}
+use Rattle.page_store.specs.Pages.{Page}
+use Rattle.page_store.specs.Kept.{seen, kid_key, key_eq, kid_added, IsStored, IsKept}
 use Rattle.page_store.specs.Search.{leading}
 use Rattle.page_store.proofs.PathOrder.{comes_before-not_back, comes_before-other}
-use Rattle.page_store.proofs.AllLemmas.{All-weaker, All-raise_count, raised}
+use Rattle.page_store.proofs.AllLemmas.{All-raise_count, raised}
 use Rattle.page_store.proofs.InsertLemmas.{same_bytes, other_ids, all_fail_from_find, find-raise_count, find-insert_fails, find-insert_passes}
 use Rattle.page_store.proofs.AddLemmas.{CanBeAdded, parent_is_page, none_from_map, id_of_raised, raised-id, are_pages-with_row}
-use Rattle.page_store.proofs.SeenLemmas.{rows_seen-kept}
 
 -- a raised count leaves the path
 raised-path : (parent : Option ℕ) (row : Page) → (raised parent row).path ≡ row.path
@@ -83,7 +82,6 @@ module _ (stored later : List (ℕ × StoredRow)) (order : List ℕ) (kids more_
     (found_parent : lookup (nat_eq p) stored ≡ Some parent)
     (stores : (id : ℕ) → lookup (nat_eq id) later ≡ cond (nat_eq new.row.id id) (Some new) (cond (nat_eq p id) (Some (kid_added parent)) (lookup (nat_eq id) stored)))
     (names : (key : KidKey) → lookup (key_eq key) more_kids ≡ cond (key_eq (kid_key p new.row.slug) key) (Some new.row.id) (lookup (key_eq key) kids)) where
-
   -- all pages
   abbrev all : List Page
   all = with_row (seen new) pages
@@ -97,7 +95,7 @@ module _ (stored later : List (ℕ × StoredRow)) (order : List ℕ) (kids more_
           let same : new.row.id ≡ id = grind (arith, nat_tests) in
           let none : row_with id pages ≡ None = rw (← same) can.new_id in
           find-insert_passes (λ (row : Page). nat_eq row.id id) (λ row. refl) (seen new) (raise_count new.parent pages) e
-              (All-raise_count (λ row. nat_eq row.id id ≡ false) new.parent (λ row h. h) pages (all_fail_from_find (λ (row : Page). nat_eq row.id id) pages none))
+          (All-raise_count (λ row. nat_eq row.id id ≡ false) new.parent (λ row h. h) pages (all_fail_from_find (λ (row : Page). nat_eq row.id id) pages none))
       by false e =
           find-insert_fails (λ (row : Page). nat_eq row.id id) (λ row. refl) (seen new) (raise_count new.parent pages) e
           ∙ find-raise_count (λ (row : Page). nat_eq row.id id) (λ row. refl) new.parent pages
@@ -124,15 +122,15 @@ module _ (stored later : List (ℕ × StoredRow)) (order : List ℕ) (kids more_
           let passes : is_parent q new.parent && bytes_eq new.row.slug slug ≡ true = rw can.parent_is e in
           let others = all_fail_from_find (λ (row : Page). is_parent q row.parent && bytes_eq row.slug slug) pages (none_from_map (λ (r : Page). r.id) _ none) in
           sym (ap (λ o. option_map (λ (r : Page). r.id) o)
-              (find-insert_passes (λ (row : Page). is_parent q row.parent && bytes_eq row.slug slug) (λ row. refl) (seen new) (raise_count new.parent pages) passes
-                  (All-raise_count (λ row. is_parent q row.parent && bytes_eq row.slug slug ≡ false) new.parent (λ row h. h) pages others)))
+          (find-insert_passes (λ (row : Page). is_parent q row.parent && bytes_eq row.slug slug) (λ row. refl) (seen new) (raise_count new.parent pages) passes
+          (All-raise_count (λ row. is_parent q row.parent && bytes_eq row.slug slug ≡ false) new.parent (λ row h. h) pages others)))
       by false e =
           let fails : is_parent q new.parent && bytes_eq new.row.slug slug ≡ false = rw can.parent_is e in
           kept.named q slug
           ∙ sym (id_of_raised new.parent _)
           ∙ sym (ap (λ o. option_map (λ (r : Page). r.id) o)
-              (find-insert_fails (λ (row : Page). is_parent q row.parent && bytes_eq row.slug slug) (λ row. refl) (seen new) (raise_count new.parent pages) fails
-              ∙ find-raise_count (λ (row : Page). is_parent q row.parent && bytes_eq row.slug slug) (λ row. refl) new.parent pages))
+          (find-insert_fails (λ (row : Page). is_parent q row.parent && bytes_eq row.slug slug) (λ row. refl) (seen new) (raise_count new.parent pages) fails
+          ∙ find-raise_count (λ (row : Page). is_parent q row.parent && bytes_eq row.slug slug) (λ row. refl) new.parent pages))
 
   -- what is kept then stands for all pages
   pub kept-with_row : IsKept later (insert order (leading (λ row. comes_before row.path (seen new).path) pages) new.row.id) more_kids all
@@ -165,10 +163,11 @@ insert_kept stored mid later order kids more_kids pages new p kept is found pare
       free_slug = rw found at is.free_slug;
       childless = is.childless;
     }
+
     by : (o : Option StoredRow) → lookup (nat_eq p) stored ≡ o → IsKept later (insert order (leading (λ row. comes_before row.path (steps_of new.row.path)) pages) new.row.id) more_kids (with_row (seen new) pages)
     by None e =
         let none : row_with p pages ≡ None = kept.found p ∙ ap (option_map seen) e in
         absurd (parent_is_page (steps_of new.row.path) pages p p (other_ids p pages none) found refl)
     by (Some above) e =
         kept-with_row stored later order kids more_kids pages new above p kept can (record { path_is = is.path_is; depth_is = is.depth_is }) e
-            (λ id. stores id ∙ ap (λ o. cond (nat_eq new.row.id id) (Some new) o) (raises id ∙ ap (λ o. cond (nat_eq p id) (option_map kid_added o) (lookup (nat_eq id) stored)) e)) names
+        (λ id. stores id ∙ ap (λ o. cond (nat_eq new.row.id id) (Some new) o) (raises id ∙ ap (λ o. cond (nat_eq p id) (option_map kid_added o) (lookup (nat_eq id) stored)) e)) names

@@ -1,26 +1,26 @@
 -- From a kid over its subtree to the next kid.
-use Rattle.std.proofs.Common.{◌≡◌, ℕ, suc, ◌+◌, ◌-◌, ◌<◌, ◌≤◌, Bool, true, false, cond, nat_eq, nat_lt, ◌&&◌, List, [], ◌∷◌, ◌++◌, Option, Some, None, IsSome, map, find, filter, length, take, drop, slice_get, refl, ap, sym, ◌∙◌, subst, arith, rules, add-one, length-append, append_assoc}
+use Rattle.std.proofs.Common.{◌≡◌, ℕ, suc, ◌+◌, ◌-◌, ◌<◌, ◌≤◌, Bool, true, false, cond, nat_eq, nat_lt, ◌&&◌, List, [], ◌∷◌, ◌++◌, Option, Some, None, IsSome, map, find, filter, length, take, drop, slice_get, refl, ap, sym, ◌∙◌, subst, arith, rules, add-one, length-append}
 use Prim.Native.Nat.{zero}
 use Rattle.std.proofs.lemmas.Bool.Decides.{nat_tests}
 use Rattle.std.proofs.lemmas.List.{drop-drop, take-append-drop, append-nil}
 use Rattle.std.specs.List.{AllByRecursion}
 use Rattle.std.specs.Option.{option_map, IfSome}
 use Rattle.std.specs.Str.{bytes_eq}
-use Rattle.page_tree.specs.Rows.{Row, comes_before, row_with, is_parent, kids_in}
+use Rattle.page_tree.specs.Rows.{comes_before, row_with, is_parent, kids_in}
 use Rattle.step_path.specs.Path.{IsPath, BeginsWith}
 use Rattle.page_store.specs.PageRows.{above, parent_id, IsRange}
-use Rattle.page_store.specs.Pages.{Page, EachPair, IsBefore, HasOtherId, StartsAtRoot, ArePages}
+use Rattle.page_store.specs.Pages.{Page, EachPair, IsBefore, StartsAtRoot, ArePages}
 use Rattle.page_store.specs.Search.{leading, begins}
-use Rattle.page_store.specs.KidWalk.{kids_between, IsKidPlace, IsKidWalk}
-use Rattle.page_store.proofs.PathOrder.{comes_before-self, comes_before-trans, begins-self, BeginsWith-begins, begins-BeginsWith}
+use Rattle.page_store.specs.KidWalk.{kids_between, IsKidWalk}
+use Rattle.page_store.proofs.PathOrder.{comes_before-self, begins-self, BeginsWith-begins, begins-BeginsWith}
 use Rattle.page_store.proofs.Leading.{leading_pass, others_fail}
-use Rattle.page_store.proofs.AllLemmas.{All-weaker, All-both}
+use Rattle.page_store.proofs.AllLemmas.{All-both}
 use Rattle.page_store.proofs.InsertLemmas.{same_bytes, other_ids}
 use Rattle.page_store.proofs.AddLemmas.{no_kids}
 use Rattle.page_store.proofs.KeptLemmas.{found_passes}
 use Rattle.page_store.proofs.SeenLemmas.{found_by_own_id, All-find}
 use Rattle.page_store.proofs.RangeLemmas.{All-at, All-drop, drop_at_place, pairs_at, below_first}
-use Rattle.page_store.proofs.WindowLemmas.{All-window, All-behind, All-take, there_is, found_at, before_at, place_before, comes_before-behind, above-append, above-cons, above-one, last_step_of, above_before, before_above, begins_same_length}
+use Rattle.page_store.proofs.WindowLemmas.{All-window, All-behind, All-take, there_is, found_at, before_at, place_before, comes_before-behind, above-append, above-cons, last_step_of, above_before, before_above, begins_same_length}
 
 -- one step of three paths that begin with each other
 begins_step : (x y z : ℕ) (p q r : Bool) → (p ≡ true → q ≡ true → r ≡ true) → nat_eq x y && p ≡ true → nat_eq y z && q ≡ true → nat_eq x z && r ≡ true
@@ -78,6 +78,7 @@ same_path pages i j a b order at there same = by (nat_lt i j) (nat_lt j i) refl 
   where
     never : (x y : List ℕ) → x ≡ y → comes_before x y ≡ true → ⊥
     never x y e h = let self = comes_before-self y in let own : comes_before y y ≡ true = subst (λ (z : List ℕ). comes_before z y ≡ true) e h in cc
+
     by : (t u : Bool) → nat_lt i j ≡ t → nat_lt j i ≡ u → a ≡ b
     by true u e f = absurd (never a.path b.path same (before_at pages i j a b order at there (grind (arith, nat_tests))))
     by false true e f = absurd (never b.path a.path (sym same) (before_at pages j i b a order there at (grind (arith, nat_tests))))
@@ -106,7 +107,7 @@ module _ (pages : List Page) (are : ArePages pages) where
     kids_below : AllByRecursion (λ row. is_parent top.id row.parent ≡ true → (above row.path ≡ top.path) × (0 < length row.path)) pages
     kids_below =
         All-both (λ row. row.parent ≡ parent_id row.path pages) (λ row. IsPath row.path) (λ row. is_parent top.id row.parent ≡ true → (above row.path ≡ top.path) × (0 < length row.path))
-            (λ row is path test. (kid_above row.path top top_place range.page (sym is ∙ parent_from_test top.id row.parent test), path.some)) pages are.parents are.paths
+        (λ row is path test. (kid_above row.path top top_place range.page (sym is ∙ parent_from_test top.id row.parent test), path.some)) pages are.parents are.paths
 
     -- a path one step below begins with the path above
     begins_above : (path : List ℕ) → above path ≡ top.path → 0 < length path → BeginsWith top.path path
@@ -164,17 +165,17 @@ module _ (pages : List Page) (are : ArePages pages) where
     no_kids_outside : (rows : List Page) → AllByRecursion (λ row. BeginsWith top.path row.path → ⊥) rows → AllByRecursion (λ row. is_parent top.id row.parent ≡ true → (above row.path ≡ top.path) × (0 < length row.path)) rows → AllByRecursion (λ row. is_parent top.id row.parent ≡ false) rows
     no_kids_outside rows outside below =
         All-both (λ row. BeginsWith top.path row.path → ⊥) (λ row. is_parent top.id row.parent ≡ true → (above row.path ≡ top.path) × (0 < length row.path)) (λ row. is_parent top.id row.parent ≡ false)
-            (λ row out is. fails_from (is_parent top.id row.parent) (λ test. out (begins_above row.path (is test).0 (is test).1))) rows outside below
+        (λ row out is. fails_from (is_parent top.id row.parent) (λ test. out (begins_above row.path (is test).0 (is test).1))) rows outside below
 
     -- no page is its own kid
     not_own_kid : is_parent top.id top.parent ≡ false
     not_own_kid =
         fails_from (is_parent top.id top.parent)
-            (λ test.
-              let is = All-at (λ (row : Page). is_parent top.id row.parent ≡ true → (above row.path ≡ top.path) × (0 < length row.path)) top_place pages top kids_below range.page test in
-              let last = last_step_of top.path is.1 in
-              let long : length top.path ≡ length top.path + 1 = ap length last.1 ∙ length-append (above top.path) (last.0 ∷ []) ∙ ap (λ (path : List ℕ). length path + 1) is.0 in
-              omega arith)
+        (λ test.
+        let is = All-at (λ (row : Page). is_parent top.id row.parent ≡ true → (above row.path ≡ top.path) × (0 < length row.path)) top_place pages top kids_below range.page test in
+        let last = last_step_of top.path is.1 in
+        let long : length top.path ≡ length top.path + 1 = ap length last.1 ∙ length-append (above top.path) (last.0 ∷ []) ∙ ap (λ (path : List ℕ). length path + 1) is.0 in
+        omega arith)
 
     -- all kids stand in the page's subtree
     kids_between-all : kids_between top.id (top_place + 1) (top_place + size) pages ≡ kids_in top.id pages
@@ -223,7 +224,7 @@ module _ (pages : List Page) (are : ArePages pages) where
           let rows = All-take (λ row. is_parent top.id row.parent ≡ true → (above row.path ≡ top.path) × (0 < length row.path)) below_kid (drop (suc place) pages) (All-drop (λ row. is_parent top.id row.parent ≡ true → (above row.path ≡ top.path) × (0 < length row.path)) (suc place) pages kids_below) in
           let both = All-both (λ row. begins kid.path row.path ≡ true) (IsBefore kid) (λ row. (begins kid.path row.path ≡ true) × (comes_before kid.path row.path ≡ true)) (λ row a b. (a, b)) _ inside behind in
           All-both (λ row. (begins kid.path row.path ≡ true) × (comes_before kid.path row.path ≡ true)) (λ row. is_parent top.id row.parent ≡ true → (above row.path ≡ top.path) × (0 < length row.path)) (λ row. is_parent top.id row.parent ≡ false)
-              (λ row facts is. fails_from (is_parent top.id row.parent) (λ test. clash row.path facts.0 facts.1 (is test))) _ both rows
+          (λ row facts is. fails_from (is_parent top.id row.parent) (λ test. clash row.path facts.0 facts.1 (is test))) _ both rows
         where
           clash : (path : List ℕ) → begins kid.path path ≡ true → comes_before kid.path path ≡ true → (above path ≡ top.path) × (0 < length path) → ⊥
           clash path inside behind is =
@@ -242,6 +243,7 @@ module _ (pages : List Page) (are : ArePages pages) where
         where
           mine : (s : ℕ) × (kid.path ≡ above kid.path ++ s ∷ [])
           mine = last_step_of kid.path kid_path.1
+
           deep : (q : Page) (j a b : ℕ) (more : List ℕ) → slice_get pages j ≡ Some q → q.path ≡ above row.path → row.path ≡ top.path ++ a ∷ b ∷ more → j < suc place + below_kid → top_place < j → ⊥
           deep q j a b more q_at q_path path before behind =
               let first = below_first kid (drop (suc place) pages) (pairs_at IsBefore place pages kid are.in_order at).0 (pairs_at IsBefore place pages kid are.in_order at).1 in
@@ -294,13 +296,14 @@ walk_starts pages id place size are there range = by (row_with id pages) refl th
     by None e there range = absurd (search rules)
     by (Some top) e there range =
         let test : nat_eq top.id id ≡ true = found_passes (λ (row : Page). nat_eq row.id id) pages top e in
-        let top_is : top.id ≡ id = grind (arith, nat_tests) in
-        ( record {
+        let top_is : top.id ≡ id = grind (arith, nat_tests) in (
+          record {
             are_pages = are;
             within = range.within;
             at_kid = λ low. record { top = top; top_place = place; size = size; top_is = top_is; range = range; behind = omega arith; end_is = refl; kid_is = λ row at. first_kid pages are top place size range row at low ∙ ap Some top_is };
-          }
-        , subst (λ (p : ℕ). kids_between p (place + 1) (place + size) pages ≡ kids_in p pages) top_is (kids_between-all pages are top place size range) )
+          },
+          subst (λ (p : ℕ). kids_between p (place + 1) (place + size) pages ≡ kids_in p pages) top_is (kids_between-all pages are top place size range),
+        )
 
 -- a walk goes on behind the subtree of its kid
 pub walk_goes_on : (pages : List Page) (parent place end next id : ℕ) → IsKidWalk pages parent place end → place < end → Some id ≡ option_map (λ (row : Page). row.id) (slice_get pages place)
@@ -321,10 +324,11 @@ walk_goes_on pages parent place end next id walk low is ends fits = by (slice_ge
         let inside = next_within pages are at.top at.top_place at.size at.range place kid e at.behind high is_kid (omega arith) at.range.within in
         let one : id ≡ kid.id = cc in
         let kids = subst (λ (p : ℕ). kids_between p place end pages ≡ kid.id ∷ kids_between p (suc place + n) end pages) at.top_is (kids_between-next pages are at.top at.top_place at.size at.range place kid e at.behind high is_kid end (omega arith)) in
-        rw (one, next_is)
-        ( record {
+        rw (one, next_is) (
+          record {
             are_pages = are;
             within = walk.within;
             at_kid = λ more. record { top = at.top; top_place = at.top_place; size = at.size; top_is = at.top_is; range = at.range; behind = (let before = at.behind in omega arith); end_is = last; kid_is = λ row there. next_kid pages are at.top at.top_place at.size at.range place kid e at.behind high is_kid row there (omega arith) ∙ ap Some at.top_is };
-          }
-        , kids )
+          },
+          kids,
+        )

@@ -1,11 +1,10 @@
 -- How many elements at the front of a list pass a test, where those that pass stand first.
-use Rattle.std.proofs.Common.{◌≡◌, ◌<◌, ◌≤◌, ◌+◌, ℕ, suc, Bool, true, false, cond, List, [], ◌∷◌, ◌++◌, map, take, drop, length, get_or, refl, ap, sym, ◌∙◌, add-one, arith}
+use Rattle.std.proofs.Common.{◌≡◌, ◌<◌, ◌≤◌, ◌+◌, ℕ, suc, Bool, true, false, cond, List, [], ◌∷◌, map, take, drop, length, get_or, refl, sym, ◌∙◌, add-one, arith}
 use Prim.Native.Nat.{zero}
 use Rattle.std.specs.List.{AllByRecursion}
 use Rattle.page_store.specs.Search.{leading, PassFirst}
 
 module _ {X : Type 0} (test : X → Bool) where
-
   -- they are no more than all elements
   pub leading-le-length : (xs : List X) → leading test xs ≤ length xs
   leading-le-length [] = omega arith

@@ -1,5 +1,5 @@
 -- The rows that begin with a page's path stand together behind it.
-use Rattle.std.proofs.Common.{◌≡◌, ℕ, suc, ◌+◌, ◌-◌, ◌<◌, ◌≤◌, Bool, true, false, cond, nat_eq, nat_lt, ◌&&◌, List, [], ◌∷◌, ◌++◌, Option, Some, None, IsSome, map, find, length, take, drop, slice_get, get_or, refl, ap, sym, ◌∙◌, subst, arith, add-one, length-drop, rules}
+use Rattle.std.proofs.Common.{◌≡◌, ℕ, suc, ◌+◌, ◌-◌, ◌<◌, ◌≤◌, Bool, true, false, cond, nat_eq, nat_lt, ◌&&◌, List, [], ◌∷◌, Option, Some, None, map, find, length, take, drop, slice_get, get_or, refl, ap, sym, ◌∙◌, subst, arith, add-one, length-drop}
 use Prim.Native.Nat.{zero}
 use Rattle.std.proofs.lemmas.Bool.Decides.{nat_tests}
 use Rattle.std.proofs.lemmas.List.{drop-drop, take_rest}
@@ -104,6 +104,7 @@ range_at pages row place n order at is within =
   where
     fails : (other : Page) → begins row.path other.path ≡ false → BeginsWith row.path other.path → ⊥
     fails other not h = let passes = begins-BeginsWith row.path other.path h in cc
+
     behind : AllByRecursion (λ other. begins row.path other.path ≡ false) (drop (leading (λ other. begins row.path other.path) (drop (suc place) pages)) (drop (suc place) pages)) → AllByRecursion (λ other. BeginsWith row.path other.path → ⊥) (drop (place + suc n) pages)
     behind all =
         let same : place + suc n ≡ suc place + n = omega arith in
@@ -132,7 +133,7 @@ module _ (stored : List (ℕ × StoredRow)) (order : List ℕ) (kids : List (Kid
       let parts = pairs_at IsBefore place pages row kept.are_pages.in_order at in
       rw (← kept.ids, drop-map (λ (r : Page). r.id) (suc place) pages)
       (PassFirst-map (λ (row : Page). row.id) (is_front Below row.path stored) (λ other. begins row.path other.path) (drop (suc place) pages)
-          (All-drop (λ other. is_front Below row.path stored other.id ≡ begins row.path other.path) (suc place) pages (fronts stored order kids pages kept Below row.path)) (below_first row (drop (suc place) pages) parts.0 parts.1))
+      (All-drop (λ other. is_front Below row.path stored other.id ≡ begins row.path other.path) (suc place) pages (fronts stored order kids pages kept Below row.path)) (below_first row (drop (suc place) pages) parts.0 parts.1))
 
   -- the row of the page whose id was read at a place
   pub row_at : (place id : ℕ) (page : StoredRow) → place < length order → id ≡ get_or order place id → Some page ≡ lookup (nat_eq id) stored → slice_get pages place ≡ Some (seen page)

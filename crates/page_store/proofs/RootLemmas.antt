@@ -1,8 +1,7 @@
 -- The rows of a new tree.
-use Rattle.std.proofs.Common.{◌≡◌, ℕ, ◌≤◌, Bool, true, false, cond, nat_eq, List, [], ◌∷◌, Option, Some, None, refl, subst, arith}
+use Rattle.std.proofs.Common.{◌≡◌, ℕ, Bool, true, false, cond, nat_eq, List, [], ◌∷◌, Some, None, refl, subst, arith}
 use Rattle.std.proofs.lemmas.Bool.Decides.{nat_tests}
 use Rattle.std.specs.Option.{option_map, IfSome}
-use Rattle.std.specs.Map.{lookup}
 use Rattle.page_tree.specs.Rows.{row_with}
 use Rattle.step_path.specs.Path.{IsPath}
 use Rattle.step_path.proofs.PathLemmas.{IsPathText-path_text, steps_of-path_text}
@@ -62,6 +61,7 @@ root_kept page is = record {
     by : (t : Bool) → cond t (Some (seen page)) None ≡ option_map seen (cond t (Some page) None)
     by true = refl
     by false = refl
+
     text : (t : Bool) → IfSome (cond t (Some page) None) IsStored
     text true = stored_root page is
     text false = tt

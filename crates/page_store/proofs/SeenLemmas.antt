@@ -1,20 +1,19 @@
 -- The rows that the store is seen as, read from what it keeps.
-use Rattle.std.proofs.Common.{◌≡◌, ℕ, suc, ◌+◌, ◌-◌, ◌<◌, ◌≤◌, Bool, true, false, cond, nat_eq, nat_lt, ◌&&◌, ◌||◌, eqb, List, [], ◌∷◌, ◌++◌, Option, Some, None, is_some, IsSome, map, find, filter, length, take, drop, slice_get, refl, ap, sym, ◌∙◌, subst, arith, add-one, rules}
+use Rattle.std.proofs.Common.{◌≡◌, ℕ, suc, ◌+◌, ◌<◌, ◌≤◌, Bool, true, false, cond, nat_eq, ◌||◌, eqb, List, [], ◌∷◌, Option, Some, None, IsSome, map, find, filter, length, slice_get, refl, ap, sym, ◌∙◌, subst, arith, add-one, rules}
 use Rattle.std.proofs.lemmas.Bool.Decides.{nat_tests}
 use Rattle.std.specs.List.{AllByRecursion, IsDistinct, list_any}
 use Rattle.std.proofs.lemmas.List.{length-map}
-use Rattle.std.proofs.lemmas.Option.{slice_get-map}
 use Rattle.std.proofs.lemmas.Map.Steps.{length-le_from_distinct_below}
 use Rattle.std.specs.Option.{option_map, option_map_or, IfSome}
 use Rattle.std.specs.Str.{bytes_eq}
 use Rattle.std.specs.Map.{lookup}
-use Rattle.page_tree.specs.Rows.{Row, comes_before, row_with, is_parent, kids_in}
+use Rattle.page_tree.specs.Rows.{comes_before, row_with, is_parent, kids_in}
 use Rattle.step_path.specs.Path.{IsPath, steps_of}
 use Rattle.site_types.specs.Ids.{IsPageId}
 use Rattle.page_store.specs.declared.stored.StoredRow.{StoredRow}
 use Rattle.page_store.specs.declared.stored.KidKey.{KidKey}
 use Rattle.page_store.specs.declared.search.Front.{Front}
-use Rattle.page_store.specs.declared.search.Front.TheVariants.{Before, Below}
+use Rattle.page_store.specs.declared.search.Front.TheVariants.{Before}
 use Rattle.page_store.specs.PageRows.{above, parent_id}
 use Rattle.page_store.specs.Pages.{Page, EachPair, IsBefore, HasOtherId, ArePages}
 use Rattle.page_store.specs.Kept.{seen, seen_before, rows_seen, IsKept}

@@ -4,10 +4,9 @@ use Rattle.std.specs.Option.{option_map, IfSome}
 use Rattle.std.specs.Str.{bytes_eq}
 use Rattle.std.specs.Map.{lookup}
 use Rattle.page_tree.specs.Walk.{SLASH}
-use Rattle.page_tree.specs.Rows.{Row, row_with, kid_named}
+use Rattle.page_tree.specs.Rows.{row_with, kid_named}
 use Rattle.step_path.specs.Path.{path_text, steps_of, IsPathText}
 use Rattle.site_types.specs.RootBody.{root_body}
-use Rattle.site_types.specs.declared.body.Body.{Body}
 use Rattle.page_store.specs.declared.stored.StoredRow.{StoredRow}
 use Rattle.page_store.specs.declared.stored.KidKey.{KidKey}
 use Rattle.page_store.specs.PageRows.{seen_row}

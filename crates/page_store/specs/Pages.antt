@@ -1,6 +1,6 @@
 -- What holds of the rows of a store: they are the rows of a tree in depth-first order, each with its parent and the
 -- number of its kids.
-use Rattle.std.specs.Prelude.{◌≡◌, ℕ, true, Option, Some, None, IsSome, List, [], ◌∷◌, length}
+use Rattle.std.specs.Prelude.{◌≡◌, true, None, IsSome, List, [], ◌∷◌, length}
 use Rattle.std.specs.List.{AllByRecursion}
 use Rattle.page_tree.specs.Rows.{Row, comes_before, kids_in}
 use Rattle.step_path.specs.Path.{IsPath}

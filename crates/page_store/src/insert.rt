@@ -1,11 +1,12 @@
-//! Making a store of rows, and putting rows in.
-ghost use Rattle.std.specs.Prelude.{◌≡◌, ℕ, ◌+◌, ◌-◌, ◌^◌, ◌<◌, ◌≤◌, ◌∷◌, [], nat_eq, if◌then◌else◌, length, insert, vec_len, vec_capacity, IfOk, OnOk, IfSome, IsSome};
+//! Making room, and putting rows in.
+ghost use Rattle.std.specs.Prelude.{◌≡◌, ℕ, ◌+◌, ◌^◌, ◌<◌, ◌≤◌, Some, nat_eq, if◌then◌else◌};
+ghost use Rattle.std.specs.Prelude.{length, insert, vec_len, vec_capacity, OnOk, IfSome, IsSome};
 ghost use Rattle.std.specs.Option.{option_map};
 ghost use Rattle.std.specs.Map.{lookup};
 ghost use Rattle.indexmap.specs.IndexMap.{Updates, spare};
 ghost use Rattle.page_tree.specs.Rows.{comes_before, with_row};
 ghost use Rattle.step_path.specs.Path.{steps_of, IsPathText};
-ghost use Rattle.page_store.specs.PageRows.{seen_row, parent_id, above, root_rows, IsNewRow};
+ghost use Rattle.page_store.specs.PageRows.{seen_row, parent_id, above, IsNewRow};
 ghost use Rattle.page_store.specs.Kept.{kid_added};
 ghost use Rattle.page_store.specs.Search.{leading};
 
@@ -108,7 +109,7 @@ fn add_kid(stored: &mut IndexMap<PageId, StoredRow>, parent: PageId)
     requires { IfSome (lookup (nat_eq parent) stored.old.entries) (λ page. page.row.numchild + 1 < 2 ^ 32) }
     ensures others { (id : ℕ) → lookup (nat_eq id) stored.new.entries
         ≡ (if nat_eq parent id then option_map kid_added (lookup (nat_eq parent) stored.old.entries)
-            else lookup (nat_eq id) stored.old.entries) }
+        else lookup (nat_eq id) stored.old.entries) }
     ensures spare { spare stored.new ≡ spare stored.old }
 {
     if let Some(page) = stored.get_mut(&parent) {

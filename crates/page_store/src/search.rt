@@ -45,12 +45,7 @@ pub(crate) fn count_front(
 }
 
 /// Whether the page stands in front of the path; one that is not there does not.
-fn is_in_front(
-    front: Front,
-    id: PageId,
-    stored: &IndexMap<PageId, StoredRow>,
-    path: &[u8],
-) -> bool
+fn is_in_front(front: Front, id: PageId, stored: &IndexMap<PageId, StoredRow>, path: &[u8]) -> bool
     requires texts { HaveTexts stored.now.entries }
     requires path { IsPathText path.now }
     ensures { result ≡ is_front front (steps_of path.now) stored.now.entries id }

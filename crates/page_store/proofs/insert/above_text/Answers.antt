@@ -1,7 +1,7 @@
 -- The path without its last step is a path, which is read back from its text.
-use Rattle.std.proofs.Common.{◌≡◌, ◌∙◌, ◌-◌, ◌<◌, ◌≤◌, ℕ, List, length, take, sym, ap, subst, arith}
+use Rattle.std.proofs.Common.{◌≡◌, ◌∙◌, ◌-◌, ◌<◌, ℕ, List, length, ap, arith}
 use Rattle.std.proofs.lemmas.List.{length-take-le}
-use Rattle.step_path.specs.Path.{IsPath, IsPathText, path_text, steps_of}
+use Rattle.step_path.specs.Path.{IsPath, steps_of}
 use Rattle.step_path.proofs.PathLemmas.{IsPathText-path_text, steps_of-path_text, AreSteps-take}
 use Rattle.page_store.specs.PageRows.{above}
 use Rattle.page_store.proofs.insert.above_text.Goals as goal

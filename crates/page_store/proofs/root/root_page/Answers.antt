@@ -1,5 +1,5 @@
 -- Each field is what its call gave.
-use Rattle.std.proofs.Common.{◌≡◌, ◌∙◌, ap, refl}
+use Rattle.std.proofs.Common.{◌∙◌, ap, refl}
 use Rattle.step_path.specs.Path.{path_text}
 use Rattle.page_store.proofs.root.root_page.Goals as goal
 

@@ -1,11 +1,11 @@
 -- The page's text is read from its row, and compares as its path.
-use Rattle.std.proofs.Common.{◌≡◌, ℕ, Bool, nat_eq, List, Option, Some, refl, ◌∙◌, rules}
+use Rattle.std.proofs.Common.{◌≡◌, ℕ, nat_eq, List, Some, refl, ◌∙◌}
 use Rattle.std.specs.Map.{lookup}
 use Rattle.step_path.specs.Path.{steps_of, IsPathText}
 use Rattle.page_store.specs.declared.stored.StoredRow.{StoredRow}
 use Rattle.page_store.specs.declared.search.Front.{Front}
 use Rattle.page_store.specs.declared.search.Front.TheVariants.{Before, Below}
-use Rattle.page_store.specs.Search.{begins, front_test, is_front, HaveTexts}
+use Rattle.page_store.specs.Search.{front_test, is_front, HaveTexts}
 use Rattle.page_store.proofs.PathOrder.{is_lt-path_cmp, begins-from_test}
 use Rattle.page_store.proofs.search.is_in_front.Goals as goal
 

@@ -1,6 +1,5 @@
 -- The walk goes on behind the subtree of its kid.
-use Rattle.std.proofs.Common.{◌≡◌, ◌∙◌, ◌∷◌, sym, arith, rules}
-use Rattle.page_store.specs.KidWalk.{kids_between, IsKidWalk}
+use Rattle.std.proofs.Common.{◌∙◌, sym, arith, rules}
 use Rattle.page_store.proofs.KidLemmas.{walk_goes_on}
 use Rattle.page_store.proofs.kids.KidsIterator.next.Goals as goal
 

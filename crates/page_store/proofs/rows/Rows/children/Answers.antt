@@ -1,5 +1,5 @@
 -- The walk begins behind the page, and is over at once where there is no such page.
-use Rattle.std.proofs.Common.{◌≡◌, ◌∙◌, ℕ, Option, None, IsSome, sym, arith, rules}
+use Rattle.std.proofs.Common.{◌∙◌, sym, arith, rules}
 use Rattle.page_store.proofs.KidLemmas.{kids_between-none, kids_of_none, walk_starts}
 use Rattle.page_store.proofs.rows.Rows.children.Goals as goal
 

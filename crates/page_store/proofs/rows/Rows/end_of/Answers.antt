@@ -2,13 +2,12 @@
 use Rattle.std.proofs.Common.{◌≡◌, ◌∙◌, ◌+◌, ◌-◌, ◌<◌, ◌≤◌, ℕ, Bool, Some, nat_eq, List, length, take, drop, slice_get, get_or, map, sym, ap, subst, arith}
 use Rattle.std.specs.Map.{lookup}
 use Rattle.std.proofs.lemmas.List.{length-map}
-use Rattle.step_path.specs.Path.{steps_of, IsPathText}
+use Rattle.step_path.specs.Path.{IsPathText}
 use Rattle.page_store.specs.declared.stored.StoredRow.{StoredRow}
-use Rattle.page_store.specs.declared.search.Front.TheVariants.{Below}
 use Rattle.page_store.specs.PageRows.{RowList}
 use Rattle.page_store.specs.Pages.{Page}
-use Rattle.page_store.specs.Kept.{seen, rows_seen}
-use Rattle.page_store.specs.Search.{HaveTexts, leading, begins, is_front}
+use Rattle.page_store.specs.Kept.{seen}
+use Rattle.page_store.specs.Search.{HaveTexts, leading, begins}
 use Rattle.page_store.proofs.RangeLemmas.{row_at, kept_is_there, slice_first, slice_count, slice_within}
 use Rattle.page_store.proofs.rows.Rows.end_of.Goals as goal
 
@@ -76,4 +75,4 @@ returns-clause-end c =
     let at = row_at _ _ _ _ c.self.invariant c.args.place c.index-order-place.result c.in-Some.page.now within (read_order _ _ _ _ c.as_slice-order.ensures.value c.index-order-place.is) c.in-Some.ensures.value in
     let count = slice_count _ _ _ _ c.self.invariant c.args.place c.in-Some.page.now _ _ c.as_slice-order.ensures.value c.as_slice-path.ensures.value in
     subst (λ (v : RowList). (row : Page) → slice_get v.pages c.args.place ≡ Some row → c.args.place + 1 + c.count_front.result ≡ c.args.place + 1 + leading (λ (other : Page). begins row.path other.path) (drop (c.args.place + 1) v.pages)) c.self.view_is
-        (λ row there. one_row (seen c.in-Some.page.now) row _ c.args.place c.count_front.result at there (c.count_front.ensures ∙ count))
+    (λ row there. one_row (seen c.in-Some.page.now) row _ c.args.place c.count_front.result at there (c.count_front.ensures ∙ count))

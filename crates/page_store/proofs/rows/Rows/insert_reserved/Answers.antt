@@ -1,5 +1,5 @@
 -- A new row put into each of the three that the store keeps.
-use Rattle.std.proofs.Common.{◌≡◌, ◌∙◌, ℕ, List, Some, cond, sym, ap, subst}
+use Rattle.std.proofs.Common.{◌≡◌, ℕ, List, Some, cond, sym, subst}
 use Rattle.page_tree.specs.Rows.{comes_before, with_row}
 use Rattle.step_path.specs.Path.{steps_of}
 use Rattle.std.specs.Map.{lookup}
@@ -37,7 +37,7 @@ kept_then c =
     let fits = subst IsPageId c.get-number.ensures.value c.get-number.ensures.range in
     let names = names_by_slug _ _ p c.copy.result c.args.row.slug c.args.row.id c.copy.ensures c.put-2.ensures.updates.0 in
     rw (c.put_at.ensures.items, place)
-        (insert_kept _ _ _ _ _ _ _ new p c.self.invariant is found (λ i. Some p) fits c.add_kid.ensures.others c.put.ensures.updates.0 names)
+    (insert_kept _ _ _ _ _ _ _ new p c.self.invariant is found (λ i. Some p) fits c.add_kid.ensures.others c.put.ensures.updates.0 names)
 
 pub add_kid-requires : goal.add_kid-requires
 add_kid-requires c = few_kids _ _ _ _ c.self.invariant c.parent_of-parent.result

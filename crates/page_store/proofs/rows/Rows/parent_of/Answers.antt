@@ -1,5 +1,5 @@
 -- The parent stands behind the pages that come before its path.
-use Rattle.std.proofs.Common.{◌≡◌, ◌∙◌, ℕ, List, Option, None, IsSome, sym, ap, subst, rules}
+use Rattle.std.proofs.Common.{◌≡◌, ◌∙◌, ℕ, Option, None, IsSome, sym, ap, subst, rules}
 use Rattle.step_path.specs.Path.{steps_of}
 use Rattle.page_store.specs.PageRows.{RowList, parent_id}
 use Rattle.page_store.specs.Pages.{ArePages}
@@ -13,7 +13,7 @@ none_is_not_some o none some = let h = subst IsSome none some in search rules
 pub above_text-above-requires-clause-below : goal.above_text-above-requires-clause-below
 above_text-above-requires-clause-below c =
     steps_of_kid (steps_of c.args.path.now) _ c.self.invariant.are_pages.paths
-        (subst (λ (v : RowList). IsSome (parent_id (steps_of c.args.path.now) v.pages)) (sym c.self.view_is) c.requires.there)
+    (subst (λ (v : RowList). IsSome (parent_id (steps_of c.args.path.now) v.pages)) (sym c.self.view_is) c.requires.there)
 
 pub unreachable-requires : goal.unreachable-requires
 unreachable-requires c =

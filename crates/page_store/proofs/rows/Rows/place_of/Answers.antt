@@ -1,5 +1,5 @@
 -- The pages that come before the path stand first in the order.
-use Rattle.std.proofs.Common.{◌≡◌, ◌∙◌}
+use Rattle.std.proofs.Common.{◌∙◌}
 use Rattle.step_path.specs.Path.{steps_of}
 use Rattle.page_store.specs.declared.search.Front.TheVariants.{Before}
 use Rattle.page_tree.specs.Rows.{comes_before}

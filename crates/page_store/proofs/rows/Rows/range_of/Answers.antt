@@ -1,5 +1,5 @@
 -- The page stands behind the pages that come before its path, and its subtree behind it.
-use Rattle.std.proofs.Common.{◌≡◌, ◌∙◌, ◌<◌, ℕ, Some, nat_eq, List, length, sym, ap, subst}
+use Rattle.std.proofs.Common.{◌≡◌, ◌∙◌, ℕ, Some, nat_eq, List, sym, ap, subst}
 use Rattle.std.specs.Option.{option_map}
 use Rattle.std.specs.Map.{lookup}
 use Rattle.page_tree.specs.Rows.{comes_before, row_with}
@@ -7,7 +7,7 @@ use Rattle.step_path.specs.Path.{steps_of, IsPathText}
 use Rattle.page_store.specs.declared.stored.StoredRow.{StoredRow}
 use Rattle.page_store.specs.PageRows.{RowList}
 use Rattle.page_store.specs.Pages.{Page, ArePages}
-use Rattle.page_store.specs.Kept.{seen, rows_seen}
+use Rattle.page_store.specs.Kept.{seen}
 use Rattle.page_store.specs.Search.{HaveTexts, leading}
 use Rattle.page_store.proofs.RangeLemmas.{range_is, own_place, within_from_get}
 use Rattle.page_store.proofs.rows.Rows.range_of.Goals as goal

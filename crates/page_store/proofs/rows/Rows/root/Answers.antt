@@ -4,7 +4,7 @@ use Rattle.indexmap.specs.IndexMap.{insert_entry}
 use Rattle.page_store.specs.declared.stored.StoredRow.{StoredRow}
 use Rattle.page_store.specs.PageRows.{root_rows}
 use Rattle.page_store.specs.Pages.{Page}
-use Rattle.page_store.specs.Kept.{rows_seen, IsKept}
+use Rattle.page_store.specs.Kept.{IsKept}
 use Rattle.page_store.proofs.SeenLemmas.{rows_seen-kept}
 use Rattle.page_store.proofs.RootLemmas.{root_kept}
 use Rattle.page_store.proofs.rows.Rows.root.Goals as goal

@@ -20,10 +20,10 @@ parent_is path text parent is short = short ∙ ap above is
 pub returns-clause-path : goal.returns-clause-path
 returns-clause-path c =
     let is = parent_is c.in-Some.path c.args.text.now c.in-Some-parent.parent c.in-Some.ensures.path.1 c.in-Some-parent.ensures.shorter.1 in
-    rw (c.text.ensures, is) (IsPathText-path_text _ (above_is_path (steps_of c.args.text.now) c.requires.path.path c.requires.below))
+    rw (c.text.ensures.value, is) (IsPathText-path_text _ (above_is_path (steps_of c.args.text.now) c.requires.path.path c.requires.below))
 
 pub returns-clause-steps : goal.returns-clause-steps
 returns-clause-steps c =
     let is = parent_is c.in-Some.path c.args.text.now c.in-Some-parent.parent c.in-Some.ensures.path.1 c.in-Some-parent.ensures.shorter.1 in
     let path = above_is_path (steps_of c.args.text.now) c.requires.path.path c.requires.below in
-    rw (c.text.ensures, is) (steps_of-path_text _ path.steps)
+    rw (c.text.ensures.value, is) (steps_of-path_text _ path.steps)

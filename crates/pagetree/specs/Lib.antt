@@ -2,3 +2,4 @@ pub mod Reading
 pub mod Answering
 pub mod Holding
 pub mod Standing
+pub mod Ending

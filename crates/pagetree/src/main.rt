@@ -6,5 +6,6 @@ mod form;
 mod held;
 mod request;
 mod site;
+mod status;
 
 fn main() {}

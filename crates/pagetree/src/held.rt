@@ -1,5 +1,5 @@
 //! The bytes that were read and are not used yet.
-ghost use Rattle.std.specs.Prelude.{◌≡◌, ◌+◌, ◌-◌, ◌<◌, ◌≤◌, ℕ, List, [], length, take, drop, IfOk, OnOk, OnErr};
+ghost use Rattle.std.specs.Prelude.{◌≡◌, ◌+◌, ◌-◌, ◌<◌, ◌≤◌, ◌++◌, ℕ, List, [], length, take, drop, IfOk, OnOk, OnErr};
 ghost use Rattle.outside_world.specs.Faults.{Rose};
 ghost use Rattle.outside_world.specs.Source.{with_front, IsSpent};
 ghost use Rattle.pagetree.specs.Holding.{held_in};
@@ -68,6 +68,8 @@ impl Held {
         requires { length self.old < ROOM }
         // Nothing is lost or made, whatever the answer.
         ensures bytes { with_front self.old (S.left source.old) ≡ with_front self.new (S.left source.new) }
+        // The held bytes stay, with others behind them.
+        ensures grows { (more : List ℕ) × (self.new ≡ self.old ++ more) }
         ensures more { IfOk result (λ n. length self.new ≡ length self.old + n) }
         ensures fits { length self.new ≤ ROOM }
         ensures ends { IfOk result (λ n. n ≡ 0 → (self.new ≡ self.old) × IsSpent (S.left source.new)) }
@@ -99,6 +101,7 @@ fn fill_room<S: Source>(room: &mut [u8], from: usize, to: usize, source: &mut S)
     ensures within { result.to ≤ length room.new }
     ensures bytes { with_front (held_in room.old from to) (S.left source.old)
         ≡ with_front (held_in room.new result.from result.to) (S.left source.new) }
+    ensures grows { (more : List ℕ) × (held_in room.new result.from result.to ≡ held_in room.old from to ++ more) }
     ensures more { IfOk result.outcome (λ n. result.to - result.from ≡ (to - from) + n) }
     ensures ends { IfOk result.outcome (λ n. n ≡ 0
         → (held_in room.new result.from result.to ≡ held_in room.old from to) × IsSpent (S.left source.new)) }

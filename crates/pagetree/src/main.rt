@@ -2,9 +2,12 @@
 #![tactic(auto)]
 
 mod answer;
+mod exchange;
 mod form;
 mod held;
+mod judged;
 mod request;
+mod session;
 mod site;
 mod status;
 

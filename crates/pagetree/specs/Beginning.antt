@@ -1,0 +1,34 @@
+-- The history that a session starts with, and how it may stop.
+use Rattle.std.specs.Prelude.{◌≡◌, ℕ, List, [], ◌∷◌, Option}
+use Rattle.outside_world.specs.Sink.{with_back, AppendsPart}
+use Rattle.site_model.specs.Start.{new_world}
+use Rattle.wire_model.specs.Answers.{not_built_text}
+use Rattle.wire_model.specs.Exchange.{Past}
+use Rattle.pagetree.specs.declared.status.Status.{Status}
+use Rattle.pagetree.specs.declared.status.Status.TheVariants.{Done, Usage, ReadFault, WriteFault, Memory, Cut, Refused, Spent}
+use Rattle.pagetree.specs.declared.exchange.Interrupted.{Interrupted}
+use Rattle.pagetree.specs.declared.exchange.Interrupted.TheVariants.{BeforeAnswer, BeforeWriting, InWriting}
+
+-- the SHA-256 digest of the token `abc` (FIPS 180-4, the first of its examples)
+abbrev pub abc_digest : List ℕ
+abc_digest =
+    0xba ∷ 0x78 ∷ 0x16 ∷ 0xbf ∷ 0x8f ∷ 0x01 ∷ 0xcf ∷ 0xea ∷ 0x41 ∷ 0x41 ∷ 0x40 ∷ 0xde ∷ 0x5d ∷ 0xae ∷ 0x22 ∷ 0x23
+    ∷ 0xb0 ∷ 0x03 ∷ 0x61 ∷ 0xa3 ∷ 0x96 ∷ 0x17 ∷ 0x7a ∷ 0x9c ∷ 0xb4 ∷ 0x10 ∷ 0xff ∷ 0x61 ∷ 0xf2 ∷ 0x00 ∷ 0x15 ∷ 0xad
+    ∷ []
+
+-- the history without items of a new site, whose first user has the token `abc`
+unfoldable pub start : Past
+start = record { start = record { world = new_world abc_digest; number = 0 }; items = [] }
+
+-- the end of a session whose exchange stopped
+abbrev pub stopped_by : Interrupted → Status
+stopped_by BeforeAnswer = Memory
+stopped_by BeforeWriting = Memory
+stopped_by InWriting = WriteFault
+
+-- what the response to what is not built leaves in the sink, by how the session ends
+abbrev pub RefusedWith : Option (List ℕ) → Option (List ℕ) → Status → Type 0
+RefusedWith before after (Refused status) = (status ≡ 501) × (after ≡ with_back before not_built_text)
+RefusedWith before after Memory = after ≡ before
+RefusedWith before after WriteFault = AppendsPart before after not_built_text
+RefusedWith before after _ = ⊥

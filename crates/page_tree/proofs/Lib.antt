@@ -1,4 +1,5 @@
 pub mod RowLemmas
 pub mod RootLemmas
 pub mod WalkLemmas
+pub mod RoomLemmas
 mod Examples

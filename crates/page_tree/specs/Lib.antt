@@ -1,3 +1,5 @@
 pub mod Tree
 pub mod Walk
 pub mod Rows
+pub mod Grove
+pub mod Walking

@@ -1,2 +1,7 @@
 //! The ordered tree of pages.
 #![tactic(auto)]
+
+pub mod cut;
+pub mod grove;
+pub mod place;
+pub mod walk;

@@ -3,3 +3,4 @@ pub mod Walk
 pub mod Rows
 pub mod Grove
 pub mod Walking
+pub mod Listing

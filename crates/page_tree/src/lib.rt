@@ -3,5 +3,6 @@
 
 pub mod cut;
 pub mod grove;
+pub mod listing;
 pub mod place;
 pub mod walk;

@@ -4,3 +4,4 @@ pub mod Rows
 pub mod Grove
 pub mod Walking
 pub mod Listing
+pub mod Laws

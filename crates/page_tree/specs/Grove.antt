@@ -1,6 +1,5 @@
 -- Which forest a grove of the program is, and what its rows are.
 use Rattle.std.specs.Prelude.{ℕ, ◌+◌, ◌^◌, ◌<◌}
-use Rattle.page_tree.specs.declared.grove.Page.{Page}
 use Rattle.page_tree.specs.declared.grove.Grove.{Grove, Bare, Grown'}
 use Rattle.page_tree.specs.declared.grove.Spot.{Spot}
 use Rattle.page_tree.specs.declared.grove.Spot.TheVariants.{AtFirst, BeforePage, AtEnd}

@@ -62,5 +62,5 @@ abbrev pub RowsTellWalks : Type 0
 RowsTellWalks =
     (own : ℕ) (kids : Forest ℕ) → HasDistinctIds (tree_with own kids) →
     AllByRecursion (λ (row : Row ℕ).
-      (path_of row.id (tree_with own kids) ≡ row.path)
-      × (url_of row.id (tree_with own kids) ≡ row.url)) (rows_of (tree_with own kids))
+    (path_of row.id (tree_with own kids) ≡ row.path)
+    × (url_of row.id (tree_with own kids) ≡ row.url)) (rows_of (tree_with own kids))

@@ -1,5 +1,5 @@
 -- Which row of a tree a row of the program is.
-use Rattle.std.specs.Prelude.{ℕ, List, [], ◌∷◌, map}
+use Rattle.std.specs.Prelude.{ℕ, List, [], ◌∷◌}
 use Rattle.page_tree.specs.declared.listing.PageRow.{PageRow}
 use Rattle.page_tree.specs.Tree.{Forest, bare, grown}
 use Rattle.page_tree.specs.Rows.{Row}

@@ -6,7 +6,6 @@ pub mod grove;
 pub mod laws;
 pub mod listing;
 pub mod place;
-pub mod walk;
-
 #[cfg(test)]
 mod tests;
+pub mod walk;

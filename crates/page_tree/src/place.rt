@@ -79,7 +79,11 @@ pub fn put_before(
 {
     match kids {
         Grove::Bare => Ok(Grove::Bare),
-        Grove::Grown { page, kids: below, rest } => {
+        Grove::Grown {
+            page,
+            kids: below,
+            rest,
+        } => {
             if page.id == sibling {
                 let later = raised(alloc, kids)?;
                 return placed(alloc, node, page.step, later);
@@ -93,19 +97,18 @@ pub fn put_before(
 
 /// A page at the end: its step is one past the last sibling's, or past `before` where there is
 /// none.
-pub fn put_last(
-    alloc: Global,
-    before: u32,
-    node: &Grove,
-    kids: &Grove,
-) -> Result<Grove, AllocError>
+pub fn put_last(alloc: Global, before: u32, node: &Grove, kids: &Grove) -> Result<Grove, AllocError>
     requires has_next { before + 1 < 2 ^ 32 }
     requires has_room { HasRoom (forest_of kids.now) }
     ensures { IfOk result (λ after. forest_of after ≡ put_last before (forest_of node.now) (forest_of kids.now)) }
 {
     match kids {
         Grove::Bare => placed(alloc, node, before + 1, Grove::Bare),
-        Grove::Grown { page, kids: below, rest } => {
+        Grove::Grown {
+            page,
+            kids: below,
+            rest,
+        } => {
             let below = copy(alloc, below)?;
             let after = put_last(alloc, page.step, node, rest)?;
             grow(alloc, page, page.step, below, after)

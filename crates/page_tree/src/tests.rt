@@ -49,33 +49,133 @@ fn shown(alloc: Global, tree: &Grove) -> Result<String, AllocError> {
 /// A page, its new parent, its place there, and the paths afterwards.
 const MOVES: [(u32, u32, Spot, &str); 22] = [
     // page 5 at 2, a first sibling: left of it, right of it, first and last among its siblings
-    (5, 1, Spot::BeforePage(2), "1[1] 5[1, 1] 2[1, 2] 3[1, 3] 4[1, 4] "),
-    (5, 1, Spot::BeforePage(3), "1[1] 2[1, 1] 5[1, 2] 3[1, 3] 4[1, 4] "),
+    (
+        5,
+        1,
+        Spot::BeforePage(2),
+        "1[1] 5[1, 1] 2[1, 2] 3[1, 3] 4[1, 4] ",
+    ),
+    (
+        5,
+        1,
+        Spot::BeforePage(3),
+        "1[1] 2[1, 1] 5[1, 2] 3[1, 3] 4[1, 4] ",
+    ),
     (5, 1, Spot::AtFirst, "1[1] 5[1, 1] 2[1, 2] 3[1, 3] 4[1, 4] "),
     (5, 1, Spot::AtEnd, "1[1] 2[1, 1] 3[1, 2] 4[1, 3] 5[1, 4] "),
     // and below it, as its first child and as its last
-    (5, 2, Spot::AtFirst, "1[1] 2[1, 1] 5[1, 1, 1] 3[1, 2] 4[1, 3] "),
-    (5, 2, Spot::AtEnd, "1[1] 2[1, 1] 5[1, 1, 1] 3[1, 2] 4[1, 3] "),
+    (
+        5,
+        2,
+        Spot::AtFirst,
+        "1[1] 2[1, 1] 5[1, 1, 1] 3[1, 2] 4[1, 3] ",
+    ),
+    (
+        5,
+        2,
+        Spot::AtEnd,
+        "1[1] 2[1, 1] 5[1, 1, 1] 3[1, 2] 4[1, 3] ",
+    ),
     // right of 3, a middle sibling, which is left of 4; and below 3
-    (5, 1, Spot::BeforePage(4), "1[1] 2[1, 1] 3[1, 2] 5[1, 3] 4[1, 4] "),
-    (5, 3, Spot::AtFirst, "1[1] 2[1, 1] 3[1, 2] 5[1, 2, 1] 4[1, 3] "),
-    (5, 3, Spot::AtEnd, "1[1] 2[1, 1] 3[1, 2] 5[1, 2, 1] 4[1, 3] "),
+    (
+        5,
+        1,
+        Spot::BeforePage(4),
+        "1[1] 2[1, 1] 3[1, 2] 5[1, 3] 4[1, 4] ",
+    ),
+    (
+        5,
+        3,
+        Spot::AtFirst,
+        "1[1] 2[1, 1] 3[1, 2] 5[1, 2, 1] 4[1, 3] ",
+    ),
+    (
+        5,
+        3,
+        Spot::AtEnd,
+        "1[1] 2[1, 1] 3[1, 2] 5[1, 2, 1] 4[1, 3] ",
+    ),
     // below 4, a last sibling, where it was
-    (5, 4, Spot::AtEnd, "1[1] 2[1, 1] 3[1, 2] 4[1, 3] 5[1, 3, 1] "),
+    (
+        5,
+        4,
+        Spot::AtEnd,
+        "1[1] 2[1, 1] 3[1, 2] 4[1, 3] 5[1, 3, 1] ",
+    ),
     // page 2 at 5, an only sibling: left of it, first and last, and below it
-    (2, 4, Spot::BeforePage(5), "1[1] 3[1, 2] 4[1, 3] 2[1, 3, 1] 5[1, 3, 2] "),
-    (2, 4, Spot::AtFirst, "1[1] 3[1, 2] 4[1, 3] 2[1, 3, 1] 5[1, 3, 2] "),
-    (2, 4, Spot::AtEnd, "1[1] 3[1, 2] 4[1, 3] 5[1, 3, 1] 2[1, 3, 2] "),
-    (2, 5, Spot::AtFirst, "1[1] 3[1, 2] 4[1, 3] 5[1, 3, 1] 2[1, 3, 1, 1] "),
-    (2, 5, Spot::AtEnd, "1[1] 3[1, 2] 4[1, 3] 5[1, 3, 1] 2[1, 3, 1, 1] "),
+    (
+        2,
+        4,
+        Spot::BeforePage(5),
+        "1[1] 3[1, 2] 4[1, 3] 2[1, 3, 1] 5[1, 3, 2] ",
+    ),
+    (
+        2,
+        4,
+        Spot::AtFirst,
+        "1[1] 3[1, 2] 4[1, 3] 2[1, 3, 1] 5[1, 3, 2] ",
+    ),
+    (
+        2,
+        4,
+        Spot::AtEnd,
+        "1[1] 3[1, 2] 4[1, 3] 5[1, 3, 1] 2[1, 3, 2] ",
+    ),
+    (
+        2,
+        5,
+        Spot::AtFirst,
+        "1[1] 3[1, 2] 4[1, 3] 5[1, 3, 1] 2[1, 3, 1, 1] ",
+    ),
+    (
+        2,
+        5,
+        Spot::AtEnd,
+        "1[1] 3[1, 2] 4[1, 3] 5[1, 3, 1] 2[1, 3, 1, 1] ",
+    ),
     // among its own siblings; what lies below a page goes along
-    (4, 1, Spot::BeforePage(2), "1[1] 4[1, 1] 5[1, 1, 1] 2[1, 2] 3[1, 3] "),
-    (4, 1, Spot::BeforePage(3), "1[1] 2[1, 1] 4[1, 2] 5[1, 2, 1] 3[1, 3] "),
-    (4, 1, Spot::AtFirst, "1[1] 4[1, 1] 5[1, 1, 1] 2[1, 2] 3[1, 3] "),
-    (4, 1, Spot::AtEnd, "1[1] 2[1, 1] 3[1, 2] 4[1, 3] 5[1, 3, 1] "),
-    (2, 1, Spot::BeforePage(4), "1[1] 3[1, 2] 2[1, 3] 4[1, 4] 5[1, 4, 1] "),
-    (2, 1, Spot::AtFirst, "1[1] 2[1, 1] 3[1, 3] 4[1, 4] 5[1, 4, 1] "),
-    (2, 1, Spot::AtEnd, "1[1] 3[1, 2] 4[1, 3] 5[1, 3, 1] 2[1, 4] "),
+    (
+        4,
+        1,
+        Spot::BeforePage(2),
+        "1[1] 4[1, 1] 5[1, 1, 1] 2[1, 2] 3[1, 3] ",
+    ),
+    (
+        4,
+        1,
+        Spot::BeforePage(3),
+        "1[1] 2[1, 1] 4[1, 2] 5[1, 2, 1] 3[1, 3] ",
+    ),
+    (
+        4,
+        1,
+        Spot::AtFirst,
+        "1[1] 4[1, 1] 5[1, 1, 1] 2[1, 2] 3[1, 3] ",
+    ),
+    (
+        4,
+        1,
+        Spot::AtEnd,
+        "1[1] 2[1, 1] 3[1, 2] 4[1, 3] 5[1, 3, 1] ",
+    ),
+    (
+        2,
+        1,
+        Spot::BeforePage(4),
+        "1[1] 3[1, 2] 2[1, 3] 4[1, 4] 5[1, 4, 1] ",
+    ),
+    (
+        2,
+        1,
+        Spot::AtFirst,
+        "1[1] 2[1, 1] 3[1, 3] 4[1, 4] 5[1, 4, 1] ",
+    ),
+    (
+        2,
+        1,
+        Spot::AtEnd,
+        "1[1] 3[1, 2] 4[1, 3] 5[1, 3, 1] 2[1, 4] ",
+    ),
 ];
 
 /// Ends the process where the pages of a tree do not have these paths.
@@ -144,18 +244,16 @@ fn a_walk_gives_path_and_url(rt: HostRuntime) -> Result<(), Fail> {
 }
 
 #[test]
-fn rows_say_what_is_kept(rt: HostRuntime) -> Result<(), Fail> {
+fn a_row_says_what_is_kept(rt: HostRuntime) -> Result<(), Fail> {
     let alloc = rt.alloc();
     let tree = copy(alloc, &four_pages(alloc)?)?;
-    for row in &rows(alloc, &tree)? {
-        if row.id == 4 {
-            assert_eq!(rt; row.parent, Some(1));
-            assert_eq!(rt; row.url.as_slice(), b"/c/".as_slice());
-            assert_eq!(rt; row.slug.as_slice(), b"c".as_slice());
-            assert_eq!(rt; row.numchild, 1);
-            assert_eq!(rt; row.body, 4);
-        }
-    }
+    let all = rows(alloc, &tree)?;
+    let row = all.get(3).ok_or("no row")?;
+    assert_eq!(rt; row.parent, Some(1));
+    assert_eq!(rt; row.url.as_slice(), b"/c/".as_slice());
+    assert_eq!(rt; row.slug.as_slice(), b"c".as_slice());
+    assert_eq!(rt; row.numchild, 1);
+    assert_eq!(rt; row.body, 4);
     Ok(())
 }
 

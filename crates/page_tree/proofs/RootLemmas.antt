@@ -19,7 +19,6 @@ not_before_earlier (x ∷ path) more late early h =
     rw same (not_before_earlier path more late early h)
 
 module _ {Body : Type 0} where
-
   -- the new path comes before none of these rows
   abbrev NoneAfter : List ℕ → List (Row Body) → Type 0
   NoneAfter new rows = AllByRecursion (λ row. comes_before new row.path ≡ false) rows

@@ -28,7 +28,6 @@ or_from_cond true x o = refl
 or_from_cond false x o = refl
 
 module _ {Body : Type 0} where
-
   -- the id of a row that is found, or of one that is found later
   id_of_found : (t : Bool) (row : Row Body) (later : Option (Row Body)) (o : Option ℕ) → o ≡ option_map (λ (r : Row Body). r.id) later → cond t (Some row.id) o ≡ option_map (λ (r : Row Body). r.id) (cond t (Some row) later)
   id_of_found true row later o h = refl

@@ -8,7 +8,6 @@ use Rattle.page_tree.specs.Rows.{Row, rows_below, child_url}
 use Rattle.page_tree.proofs.RootLemmas.{rooted}
 
 module _ {Body : Type 0} where
-
   -- no walk leads to an id that no page has
   pub walk-absent : (id : ℕ) (f : Forest Body) → AllIds (λ i. i ≡ id → ⊥) f → walk id f ≡ []
   walk-absent id bare apart = refl

@@ -34,7 +34,6 @@ comes_before (x ∷ xs) [] = false
 comes_before (x ∷ xs) (y ∷ ys) = if x == y then comes_before xs ys else nat_lt x y
 
 module _ {Body : Type 0} where
-
   -- The rows of pages side by side and of all below them, depth first. Their parent, where they have one, has this
   -- path and this URL.
   abbrev pub rows_below : Option ℕ → List ℕ → List ℕ → Forest Body → List (Row Body)

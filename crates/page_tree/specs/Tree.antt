@@ -18,7 +18,6 @@ pub data Place : Type 0 where
   End : Place
 
 module _ {Body : Type 0} where
-
   -- whether a page has the id
   abbrev pub has_page : ℕ → Forest Body → Bool
   has_page id bare = false

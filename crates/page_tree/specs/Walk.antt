@@ -16,7 +16,6 @@ abbrev pub SLASH : ℕ
 SLASH = 47
 
 module _ {Body : Type 0} where
-
   -- how many pages stand side by side
   abbrev pub kid_count : Forest Body → ℕ
   kid_count bare = 0

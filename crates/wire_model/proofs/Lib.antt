@@ -1,3 +1,6 @@
 pub mod RequestLemmas
 pub mod LengthLemmas
 pub mod SplitLemmas
+pub mod TranscriptLemmas
+pub mod FinalLemmas
+mod Examples

@@ -2,3 +2,5 @@ pub mod Requests
 pub mod Answers
 pub mod Exchange
 pub mod Transcript
+pub mod Accepted
+pub mod Laws

@@ -2,6 +2,7 @@
 //! and the constant texts that they and the code share.
 #![tactic(auto)]
 
+pub mod laws;
 mod words;
 
 pub use words::{

@@ -31,7 +31,7 @@ unfolding front after_text digits_then_end announced_at body_of
 home_is_whole = refl
 
 -- without the last byte it is a part of a request
-all_but_one_byte_is_part : front (take 138 home_bytes) ≡ part
+all_but_one_byte_is_part : front (take 139 home_bytes) ≡ part
 unfolding front after_text digits_then_end announced_at body_of
 all_but_one_byte_is_part = refl
 

@@ -3,4 +3,5 @@ pub mod LengthLemmas
 pub mod SplitLemmas
 pub mod TranscriptLemmas
 pub mod FinalLemmas
+pub mod ScanLemmas
 mod Examples

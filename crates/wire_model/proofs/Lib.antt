@@ -4,4 +4,6 @@ pub mod SplitLemmas
 pub mod TranscriptLemmas
 pub mod FinalLemmas
 pub mod ScanLemmas
+pub mod NumberLemmas
+pub mod FormLemmas
 mod Examples

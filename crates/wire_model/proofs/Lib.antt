@@ -6,4 +6,5 @@ pub mod FinalLemmas
 pub mod ScanLemmas
 pub mod NumberLemmas
 pub mod FormLemmas
+pub mod GrammarLemmas
 mod Examples

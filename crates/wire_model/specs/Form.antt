@@ -1,11 +1,12 @@
 -- The form of a request in bytes: the grammar of what is read, written from the request.
-use Rattle.std.specs.Prelude.{◌≡◌, ℕ, ◌≤◌, List, [], ◌++◌, length, IsTrue}
+use Rattle.std.specs.Prelude.{◌≡◌, ℕ, ◌≤◌, List, [], ◌∷◌, ◌++◌, length, IsTrue}
 use Rattle.std.specs.List.{list_all}
 use Rattle.std.specs.Fmt.{decimal}
 use Rattle.site_types.specs.Ids.{IsPageId}
 use Rattle.site_types.specs.Slug.{IsSlug}
 use Rattle.wire_model.specs.declared.words.TheConstants.{HEAD_FRONT, HEAD_END, BODY_TITLE, BODY_PARENT, BODY_SLUG, BODY_END, MAX_TITLE}
 use Rattle.wire_model.specs.Requests.{Request, is_digit, number_after, is_title_byte}
+use Rattle.wire_model.specs.Exchange.{Told}
 
 -- What a request may ask: a title of 1 to 255 title bytes, a parent that may be a page's id, and a slug.
 pub record IsAsked (request : Request) : Type 0 where
@@ -38,3 +39,9 @@ pub record IsForm (request : Request) (text : List ℕ) : Type 0 where
   pub digits : List ℕ
   pub tells : WritesLength digits (length (body_text request))
   pub is : text ≡ form_text digits request
+
+-- the text is a form of each of these requests, one behind the other
+abbrev pub AreForms : List Told → List ℕ → Type 0
+AreForms [] text = text ≡ []
+AreForms (told ∷ more) text =
+    (first others : List ℕ) × IsForm told.request first × AreForms more others × (text ≡ first ++ others)

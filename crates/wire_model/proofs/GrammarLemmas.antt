@@ -1,10 +1,10 @@
 -- What is read is a form of a request, and so are the bytes that a transcript reads.
-use Rattle.std.proofs.Common.{◌≡◌, ◌≤◌, ◌<◌, ◌+◌, ◌-◌, ◌*◌, ℕ, suc, zero, Bool, true, false, List, [], ◌∷◌, ◌++◌, length, take, drop, Option, Some, None, cond, nat_le, nat_lt, ◌&&◌, refl, sym, ap, subst, ◌∙◌, append_assoc, arith, rules}
+use Rattle.std.proofs.Common.{◌≡◌, ◌≤◌, ◌<◌, ◌+◌, ◌-◌, ◌*◌, ℕ, suc, zero, Bool, true, false, List, [], ◌∷◌, ◌++◌, length, take, drop, Option, Some, None, cond, nat_le, nat_lt, ◌&&◌, refl, sym, ap, subst, ◌∙◌, append_assoc, length-append, arith, rules}
 use Rattle.std.specs.Cmp.{first_so, second_so}
 use Rattle.std.specs.Fmt.{decimal}
 use Rattle.std.specs.List.{list_all}
 use Rattle.std.proofs.lemmas.Bool.Decides.{nat_tests}
-use Rattle.std.proofs.lemmas.List.{take-append-drop, length-take-le}
+use Rattle.std.proofs.lemmas.List.{append-nil, take-append-drop, length-take-le}
 use Rattle.site_types.specs.Slug.{is_slug_byte}
 use Rattle.site_model.specs.World.{World}
 use Rattle.wire_model.specs.declared.words.TheConstants.{HEAD_FRONT, HEAD_END, BODY_TITLE, BODY_PARENT, BODY_SLUG, BODY_END}
@@ -15,7 +15,8 @@ use Rattle.wire_model.specs.Form.{IsAsked, WritesLength, body_text, form_text, I
 use Rattle.wire_model.proofs.SplitLemmas.{SplitsBehind, after_text_splits}
 use Rattle.wire_model.proofs.ScanLemmas.{cut_gives, scanned_gives}
 use Rattle.wire_model.proofs.NumberLemmas.{writes_gives}
-use Rattle.wire_model.proofs.FormLemmas.{regroup_body, regroup_form}
+use Rattle.wire_model.proofs.FormLemmas.{regroup_body, regroup_form, form_is_read}
+use Rattle.wire_model.proofs.RequestLemmas.{GrowsFront, front_grows}
 
 -- the parts that make a request are within their limits, and nothing is left behind them
 record Parts (title ds slug rest : List ℕ) (request : Request) : Type 0 where
@@ -78,12 +79,10 @@ body_gives body request is =
     let parent = scanned_gives is_digit BODY_SLUG.now (body_end title.0) title.1 request title.4 in
     let slug = scanned_gives is_slug_byte BODY_END.now (request_of title.0 parent.0) parent.1 request parent.4 in
     let made = body_from_parts title.0 parent.0 slug.0 slug.1 request title.3 parent.3 slug.3 (request_of_gives title.0 parent.0 slug.0 slug.1 request slug.4) in
-    (made.0,
-     front_is
-     ∙ (ap (λ bytes. BODY_TITLE.now ++ bytes) title.2
-       ∙ (ap (λ bytes. BODY_TITLE.now ++ (title.0 ++ (BODY_PARENT.now ++ bytes))) parent.2
-         ∙ (ap (λ bytes. BODY_TITLE.now ++ (title.0 ++ (BODY_PARENT.now ++ (parent.0 ++ (BODY_SLUG.now ++ bytes))))) slug.2
-           ∙ made.1))))
+    (made.0, joined BODY_TITLE.now BODY_PARENT.now BODY_SLUG.now BODY_END.now body front_found.0 title.1 parent.1 title.0 parent.0 slug.0 slug.1 (body_text request) front_is title.2 parent.2 slug.2 made.1)
+  where
+    joined : (t p s e body a b c xs ys zs rest text : List ℕ) → body ≡ t ++ a → a ≡ xs ++ (p ++ b) → b ≡ ys ++ (s ++ c) → c ≡ zs ++ (e ++ rest) → t ++ (xs ++ (p ++ (ys ++ (s ++ (zs ++ (e ++ rest)))))) ≡ text → body ≡ text
+    joined t p s e body a b c xs ys zs rest text h i j k l = cc
 
 -- digits, then the end of a head, then what follows it, are the bytes; the digits go on from n
 abbrev GivesDigits : ℕ → ℕ → List ℕ → Head → Type 0
@@ -207,6 +206,20 @@ front_of_gives bytes no_head request rest h is = absurd (cc)
 pub form_was_read : (bytes : List ℕ) (request : Request) (rest : List ℕ) → front bytes ≡ whole request rest → (text : List ℕ) × IsForm request text × (bytes ≡ text ++ rest)
 unfolding front
 form_was_read bytes request rest is = front_of_gives bytes (head_at bytes) request rest (head_at_gives bytes) is
+
+-- what stands at the front of a form that lacks bytes
+cut_front : (x : Front) (request : Request) (lacking : List ℕ) → GrowsFront x (whole request []) lacking → 0 < length lacking → x ≡ part
+cut_front (whole other rest) request lacking h some =
+    let left : [] ≡ rest ++ lacking = cc in
+    absurd (omega (arith, ap length left, length-append rest lacking))
+cut_front part request lacking h some = refl
+cut_front refused request lacking h some = absurd (cc)
+
+-- A form of a request that lacks bytes at its end is a part of a request.
+pub cut_form_is_part : (request : Request) (text lacking : List ℕ) → IsForm request (text ++ lacking) → 0 < length lacking → front text ≡ part
+cut_form_is_part request text lacking form some =
+    let all : front (text ++ lacking) ≡ whole request [] = ap front (sym (append-nil (text ++ lacking))) ∙ form_is_read request (text ++ lacking) [] form in
+    cut_front (front text) request lacking (subst (λ x. GrowsFront (front text) x lacking) all (front_grows text lacking)) some
 
 -- a request that is asked is whole at the front
 asked_is_whole : (world : World) (n : ℕ) (x : Front) (request : Request) (rest : List ℕ) → judge_front world n x ≡ asks request rest → x ≡ whole request rest

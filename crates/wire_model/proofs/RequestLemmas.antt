@@ -18,6 +18,7 @@ grows_behind_if : (t : Bool) (x y : Behind) (more : List ℕ) → GrowsBehind x 
 grows_behind_if true x y more h = h
 grows_behind_if false x y more h = refl
 
+-- more bytes behind a text
 after_text_grows : (text bytes more : List ℕ) → GrowsBehind (after_text text bytes) (after_text text (bytes ++ more)) more
 unfolding after_text
 after_text_grows [] bytes more = refl
@@ -35,11 +36,13 @@ grows_head_if : (t : Bool) (x y u v : Head) (more : List ℕ) → GrowsHead x y 
 grows_head_if true x y u v more h k = h
 grows_head_if false x y u v more h k = k
 
+-- more bytes behind the end of a head
 ended_head_grows : (n : ℕ) (x y : Behind) (more : List ℕ) → GrowsBehind x y more → GrowsHead (ended_head n x) (ended_head n y) more
 ended_head_grows n (behind rest) y more h = ap (ended_head n) h
 ended_head_grows n too_short y more h = tt
 ended_head_grows n different y more h = ap (ended_head n) h
 
+-- more bytes behind the digits of a head
 digits_grow : (n k : ℕ) (bytes more : List ℕ) → GrowsHead (digits_then_end n k bytes) (digits_then_end n k (bytes ++ more)) more
 unfolding digits_then_end
 digits_grow n zero bytes more = ended_head_grows n _ _ more (after_text_grows HEAD_END.now bytes more)
@@ -47,21 +50,24 @@ digits_grow n (suc k) [] more = tt
 digits_grow n (suc k) (b ∷ bytes) more =
     grows_head_if (is_digit b) _ _ _ _ more (digits_grow (10 * n + (b - 48)) k bytes more) (ended_head_grows n _ _ more (after_text_grows HEAD_END.now (b ∷ bytes) more))
 
+-- more bytes behind what the digits announce
 announced_grows : (bytes more : List ℕ) → GrowsHead (announced_at bytes) (announced_at (bytes ++ more)) more
 unfolding announced_at
 announced_grows [] more = tt
 announced_grows (b ∷ bytes) more = grows_head_if (is_digit b) _ _ no_head no_head more (digits_grow (b - 48) 2 bytes more) refl
 
+-- more bytes behind the fixed front of a head
 head_behind_grows : (x y : Behind) (more : List ℕ) → GrowsBehind x y more → GrowsHead (head_behind x) (head_behind y) more
 head_behind_grows (behind rest) y more h = rw h (announced_grows rest more)
 head_behind_grows too_short y more h = tt
 head_behind_grows different y more h = ap head_behind h
 
+-- more bytes behind a head
 head_at_grows : (bytes more : List ℕ) → GrowsHead (head_at bytes) (head_at (bytes ++ more)) more
 head_at_grows bytes more = head_behind_grows _ _ more (after_text_grows HEAD_FRONT.now bytes more)
 
 -- a whole request stays, with more bytes behind it, and so does what no request begins with
-abbrev GrowsFront : Front → Front → List ℕ → Type 0
+abbrev pub GrowsFront : Front → Front → List ℕ → Type 0
 GrowsFront (whole request rest) later more = later ≡ whole request (rest ++ more)
 GrowsFront part later more = Unit {0}
 GrowsFront refused later more = later ≡ refused
@@ -79,12 +85,14 @@ announced_front_grows false n rest more is =
     let longer : nat_lt (length (rest ++ more)) n ≡ false = let len = length-append rest more in grind (arith, nat_tests) in
     rw (longer, take-append-le n rest more fits, drop-append-le n rest more fits) (body_grows (body_of (take n rest)) (drop n rest) more)
 
+-- more bytes behind a head and its body
 front_of_grows : (x y : Head) (more : List ℕ) → GrowsHead x y more → GrowsFront (front_of x) (front_of y) more
 front_of_grows (head n rest) y more h = rw h (announced_front_grows (nat_lt (length rest) n) n rest more refl)
 front_of_grows part_of_head y more h = tt
 front_of_grows no_head y more h = ap front_of h
 
-front_grows : (bytes more : List ℕ) → GrowsFront (front bytes) (front (bytes ++ more)) more
+-- more bytes behind a request
+pub front_grows : (bytes more : List ℕ) → GrowsFront (front bytes) (front (bytes ++ more)) more
 unfolding front
 front_grows bytes more = front_of_grows _ _ more (head_at_grows bytes more)
 
@@ -95,10 +103,12 @@ GrowsJudged nothing_left later more = Unit {0}
 GrowsJudged (unfinished count) later more = Unit {0}
 GrowsJudged unbuilt later more = later ≡ unbuilt
 
+-- the same of what is asked where it is built
 judged_if : (t : Bool) (request : Request) (rest more : List ℕ) → GrowsJudged (cond t (asks request rest) unbuilt) (cond t (asks request (rest ++ more)) unbuilt) more
 judged_if true request rest more = refl
 judged_if false request rest more = refl
 
+-- more bytes behind what is judged
 judge_front_grows : (world : World) (m n : ℕ) (x y : Front) (more : List ℕ) → GrowsFront x y more → GrowsJudged (judge_front world m x) (judge_front world n y) more
 judge_front_grows world m n (whole request rest) y more h = rw h (judged_if (is_built world request) request rest more)
 judge_front_grows world m n part y more h = tt

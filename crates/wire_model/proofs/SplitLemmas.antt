@@ -36,6 +36,7 @@ splits_head_if : (t : Bool) (bytes : List ℕ) (x y : Head) → SplitsHead bytes
 splits_head_if true bytes x y h k = h
 splits_head_if false bytes x y h k = k
 
+-- the end of a head and what stands behind it
 ended_splits : (n : ℕ) (bytes : List ℕ) (x : Behind) → SplitsBehind HEAD_END.now bytes x → SplitsHead bytes (ended_head n x)
 ended_splits n bytes (behind rest) h = (HEAD_END.now, h)
 ended_splits n bytes too_short h = tt
@@ -47,6 +48,7 @@ longer_splits b bytes (head announced rest) h = (b ∷ h.0, ap (λ xs. b ∷ xs)
 longer_splits b bytes part_of_head h = tt
 longer_splits b bytes no_head h = tt
 
+-- up to k digits, the end of a head, and what stands behind it
 digits_split : (n k : ℕ) (bytes : List ℕ) → SplitsHead bytes (digits_then_end n k bytes)
 unfolding digits_then_end
 digits_split n zero bytes = ended_splits n bytes _ (after_text_splits HEAD_END.now bytes)
@@ -72,6 +74,7 @@ fronted bytes rest (head announced more) is h = (h.0, is ∙ (ap (λ xs. HEAD_FR
 fronted bytes rest part_of_head is h = tt
 fronted bytes rest no_head is h = tt
 
+-- the same of what stands behind the fixed front
 head_behind_splits : (bytes : List ℕ) (x : Behind) → SplitsBehind HEAD_FRONT.now bytes x → SplitsWhole bytes (head_behind x)
 head_behind_splits bytes (behind rest) h = fronted bytes rest (announced_at rest) h (announced_splits rest)
 head_behind_splits bytes too_short h = tt

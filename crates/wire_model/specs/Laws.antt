@@ -2,9 +2,10 @@
 use Rattle.std.specs.Prelude.{◌≡◌, ℕ, ◌≤◌, ◌<◌, List, ◌++◌, length, Option, IsSome}
 use Rattle.site_model.specs.World.{World}
 use Rattle.wire_model.specs.declared.words.TheConstants.{MAX_REQUEST}
-use Rattle.wire_model.specs.Requests.{Request, Front, part, front}
+use Rattle.wire_model.specs.Requests.{Request, Front, whole, part, front}
 use Rattle.wire_model.specs.Exchange.{Past, Told, IsLegal, Judged, asks, nothing_left, unfinished, unbuilt, judge, tally_of}
 use Rattle.wire_model.specs.Transcript.{Follows, HasMoments}
+use Rattle.wire_model.specs.Form.{IsForm, AreForms}
 use Rattle.wire_model.specs.Accepted.{accepted_in, grown_by}
 
 -- A final judgement stays with more bytes behind: the same request is asked, and those bytes come behind what
@@ -34,11 +35,28 @@ HistoryGrowsAsTold =
     (past after : Past) (bytes rest : List ℕ) (told : List Told) →
     Follows past bytes told after rest → after ≡ grown_by past (accepted_in told)
 
--- what a transcript reads and what is left of the bytes are the bytes
-abbrev pub NothingIsLost : Type 0
-NothingIsLost =
+-- a form of a request, with any bytes behind it, is read as that request: nothing of the grammar is refused
+abbrev pub FormsAreRead : Type 0
+FormsAreRead =
+    (request : Request) (text rest : List ℕ) → IsForm request text → front (text ++ rest) ≡ whole request rest
+
+-- what is read as a request is a form of it, and what is left stands behind it: nothing outside the grammar is read
+abbrev pub FormsAloneAreRead : Type 0
+FormsAloneAreRead =
+    (bytes : List ℕ) (request : Request) (rest : List ℕ) → front bytes ≡ whole request rest →
+    (text : List ℕ) × IsForm request text × (bytes ≡ text ++ rest)
+
+-- a form of a request that lacks bytes at its end is a part of a request
+abbrev pub CutFormIsPart : Type 0
+CutFormIsPart =
+    (request : Request) (text lacking : List ℕ) →
+    IsForm request (text ++ lacking) → 0 < length lacking → front text ≡ part
+
+-- the bytes that a transcript reads are forms of its requests, one behind the other, and what is left stands behind
+abbrev pub TranscriptReadsForms : Type 0
+TranscriptReadsForms =
     (past after : Past) (bytes rest : List ℕ) (told : List Told) →
-    Follows past bytes told after rest → (read : List ℕ) × (bytes ≡ read ++ rest)
+    Follows past bytes told after rest → (text : List ℕ) × AreForms told text × (bytes ≡ text ++ rest)
 
 -- Of two transcripts from one history, of the same bytes and with the moments of one clock, the longer begins with the
 -- shorter, and goes on from where that ended.

@@ -1,6 +1,6 @@
 //! Laws of requests, judgements and transcripts. Each is a function that does nothing: its contract
 //! is the law.
-ghost use Rattle.wire_model.specs.Laws.{FinalStays, PartIsShort, TranscriptKeepsLegal, HistoryGrowsAsTold, LongerBeginsWithShorter, OneTranscript, NothingAskedIsLast};
+ghost use Rattle.wire_model.specs.Laws.{FinalStays, PartIsShort, TranscriptKeepsLegal, HistoryGrowsAsTold, FormsAreRead, FormsAloneAreRead, CutFormIsPart, TranscriptReadsForms, LongerBeginsWithShorter, OneTranscript, NothingAskedIsLast};
 
 /// A final judgement stays with more bytes behind.
 pub fn final_stays()
@@ -10,6 +10,26 @@ pub fn final_stays()
 /// What is only a part of a request is shorter than `MAX_REQUEST`.
 pub fn part_is_short()
     ensures { PartIsShort }
+{}
+
+/// Nothing of the grammar is refused.
+pub fn forms_are_read()
+    ensures { FormsAreRead }
+{}
+
+/// Nothing outside the grammar is read.
+pub fn forms_alone_are_read()
+    ensures { FormsAloneAreRead }
+{}
+
+/// A form that lacks bytes at its end is a part of a request.
+pub fn cut_form_is_part()
+    ensures { CutFormIsPart }
+{}
+
+/// The bytes that a transcript reads are forms of its requests.
+pub fn transcript_reads_forms()
+    ensures { TranscriptReadsForms }
 {}
 
 /// A transcript from a legal history on leaves a legal history.

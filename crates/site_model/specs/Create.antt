@@ -73,12 +73,14 @@ created part now caller parent slug content =
     }
 
 -- what becomes of a creation that no rule refuses, or the refusal
-abbrev pub unless_refused : Option Refusal → TreePart → Reply → Result (TreePart × Effect Reply) Refusal
+abbrev pub unless_refused : Option Refusal → TreePart → Reply →
+    Result (TreePart × Effect Reply) Refusal
 unless_refused (Some refusal) part reply = Err refusal
 unless_refused None part reply = Ok (part, record { reply = reply; opened = None; shut = [] })
 
 -- a creation by a caller at a moment
-abbrev pub create : TreePart → ℕ → ℕ → ℕ → List ℕ → ContentValue → Result (TreePart × Effect Reply) Refusal
+abbrev pub create : TreePart → ℕ → ℕ → ℕ → List ℕ → ContentValue →
+    Result (TreePart × Effect Reply) Refusal
 create part now caller parent slug content =
     let after = created part now caller parent slug content in
     unless_refused (create_refusal part parent slug) after (page_reply part.next_page after.tree)

@@ -30,7 +30,8 @@ abbrev pub texts_after : Effect Reply → List DeskText → List DeskText
 texts_after effect texts = without_desks effect.shut (with_desk effect.opened texts)
 
 -- a step of the tree part, with what it does to the texts
-abbrev pub with_texts : List DeskText → Result (TreePart × Effect Reply) Refusal → Result (World × Reply) Refusal
+abbrev pub with_texts : List DeskText → Result (TreePart × Effect Reply) Refusal →
+    Result (World × Reply) Refusal
 with_texts texts (Err refusal) = Err refusal
 with_texts texts (Ok done) = Ok (record { part = done.0; texts = texts_after done.1 texts }, done.1.reply)
 

@@ -13,20 +13,25 @@ use Rattle.wire_model.proofs.ScanLemmas.{after_text-append, scanned-append}
 use Rattle.wire_model.proofs.NumberLemmas.{number-decimal, digits-decimal, writes-decimal}
 
 -- seven texts one after another, whichever are joined first
-pub regroup_body : (a b c d e f g : List ℕ) → a ++ b ++ c ++ d ++ e ++ f ++ g ≡ a ++ (b ++ (c ++ (d ++ (e ++ (f ++ (g ++ []))))))
+pub regroup_body : (a b c d e f g : List ℕ) →
+    a ++ b ++ c ++ d ++ e ++ f ++ g ≡ a ++ (b ++ (c ++ (d ++ (e ++ (f ++ (g ++ []))))))
 regroup_body a b c d e f g = simp (append_assoc, append-nil)
 
 -- the same of the parts of a request and what follows it
-pub regroup_form : (a b c d rest : List ℕ) → a ++ b ++ c ++ d ++ rest ≡ a ++ (b ++ (c ++ (d ++ rest)))
+pub regroup_form : (a b c d rest : List ℕ) →
+    a ++ b ++ c ++ d ++ rest ≡ a ++ (b ++ (c ++ (d ++ rest)))
 regroup_form a b c d rest = simp append_assoc
 
 -- the request that the parts make
-request_made : (title ds slug : List ℕ) (parent : ℕ) → is_title_length (length title) ≡ true → writes_page_id ds ≡ true → is_title_length (length slug) ≡ true → number_after 0 ds ≡ parent → request_of title ds slug [] ≡ Some (record { parent = parent; slug = slug; title = title })
+request_made : (title ds slug : List ℕ) (parent : ℕ) → is_title_length (length title) ≡ true →
+    writes_page_id ds ≡ true → is_title_length (length slug) ≡ true → number_after 0 ds ≡ parent →
+    request_of title ds slug [] ≡ Some (record { parent = parent; slug = slug; title = title })
 request_made title ds slug parent p q r same =
     chosen (is_title_length (length title)) (writes_page_id ds) (is_title_length (length slug)) _ p q r
     ∙ ap (λ n. Some (record { parent = n; slug = slug; title = title })) same
   where
-    chosen : (a b c : Bool) (request : Request) → a ≡ true → b ≡ true → c ≡ true → cond (a && (b && c)) (Some request) None ≡ Some request
+    chosen : (a b c : Bool) (request : Request) → a ≡ true → b ≡ true → c ≡ true →
+        cond (a && (b && c)) (Some request) None ≡ Some request
     chosen a b c request p q r = cc
 
 -- a length within the limits
@@ -34,7 +39,8 @@ length_within : (n : ℕ) → 1 ≤ n → n ≤ 255 → is_title_length n ≡ tr
 length_within n low high = grind (arith, nat_tests)
 
 -- the body's text is read as its request
-pub body_of-text : (request : Request) → IsAsked request → body_of (body_text request) ≡ Some request
+pub body_of-text : (request : Request) → IsAsked request →
+    body_of (body_text request) ≡ Some request
 unfolding body_of
 body_of-text request asked =
     let title = request.title in
@@ -46,13 +52,15 @@ body_of-text request asked =
     let behind_front : List ℕ = title ++ (BODY_PARENT.now ++ behind_title) in
     ap (λ bytes. cut (after_text BODY_TITLE.now bytes) >>= body_title) (regroup_body BODY_TITLE.now title BODY_PARENT.now ds BODY_SLUG.now slug BODY_END.now)
     ∙ (ap (λ x. cut x >>= body_title) (after_text-append BODY_TITLE.now behind_front)
-      ∙ (scanned-append is_title_byte BODY_PARENT.now body_parent title behind_title asked.title_bytes refl
-        ∙ (scanned-append is_digit BODY_SLUG.now (body_end title) ds behind_parent (digits-decimal request.parent asked.parent.1) refl
-          ∙ (scanned-append is_slug_byte BODY_END.now (request_of title ds) slug [] asked.slug.allowed refl
-            ∙ request_made title ds slug request.parent (length_within (length title) asked.title_not_empty asked.title_fits) (writes-decimal request.parent asked.parent.0 asked.parent.1) (length_within (length slug) asked.slug.not_empty asked.slug.fits) (number-decimal request.parent asked.parent.1)))))
+    ∙ (scanned-append is_title_byte BODY_PARENT.now body_parent title behind_title asked.title_bytes refl
+    ∙ (scanned-append is_digit BODY_SLUG.now (body_end title) ds behind_parent (digits-decimal request.parent asked.parent.1) refl
+    ∙ (scanned-append is_slug_byte BODY_END.now (request_of title ds) slug [] asked.slug.allowed refl
+    ∙ request_made title ds slug request.parent (length_within (length title) asked.title_not_empty asked.title_fits) (writes-decimal request.parent asked.parent.0 asked.parent.1) (length_within (length slug) asked.slug.not_empty asked.slug.fits) (number-decimal request.parent asked.parent.1)))))
 
 -- the head's end behind up to k digits more
-digits_then_end-append : (n k : ℕ) (ds rest : List ℕ) → length ds ≤ k → list_all is_digit ds ≡ true → digits_then_end n k (ds ++ (HEAD_END.now ++ rest)) ≡ head (number_after n ds) rest
+digits_then_end-append : (n k : ℕ) (ds rest : List ℕ) → length ds ≤ k →
+    list_all is_digit ds ≡ true →
+    digits_then_end n k (ds ++ (HEAD_END.now ++ rest)) ≡ head (number_after n ds) rest
 unfolding digits_then_end
 digits_then_end-append n zero [] rest few all = ap (ended_head n) (after_text-append HEAD_END.now rest)
 digits_then_end-append n (suc k) [] rest few all = ap (ended_head n) (after_text-append HEAD_END.now rest)
@@ -62,7 +70,8 @@ digits_then_end-append n (suc k) (d ∷ ds) rest few all =
     ∙ digits_then_end-append (10 * n + (d - 48)) k ds rest (omega arith) (second_so (is_digit d) _ all)
 
 -- the head that digits announce
-announced_at-append : (ds rest : List ℕ) (n : ℕ) → WritesLength ds n → announced_at (ds ++ (HEAD_END.now ++ rest)) ≡ head n rest
+announced_at-append : (ds rest : List ℕ) (n : ℕ) → WritesLength ds n →
+    announced_at (ds ++ (HEAD_END.now ++ rest)) ≡ head n rest
 unfolding announced_at
 announced_at-append [] rest n tells = let some = tells.some in absurd (omega arith)
 announced_at-append (d ∷ ds) rest n tells =
@@ -70,18 +79,20 @@ announced_at-append (d ∷ ds) rest n tells =
     let first : 10 * 0 + (d - 48) ≡ d - 48 = omega arith in
     ap (λ t. cond t (digits_then_end (d - 48) 2 (ds ++ (HEAD_END.now ++ rest))) no_head) (first_so (is_digit d) _ tells.all)
     ∙ (digits_then_end-append (d - 48) 2 ds rest few (second_so (is_digit d) _ tells.all)
-      ∙ ap (λ m. head m rest) (ap (λ m. number_after m ds) (sym first) ∙ tells.value))
+    ∙ ap (λ m. head m rest) (ap (λ m. number_after m ds) (sym first) ∙ tells.value))
 
 -- a front with all the bytes that its head announces
-front_of-append : (n : ℕ) (body rest : List ℕ) → length body ≡ n → front_of (head n (body ++ rest)) ≡ whole_or_refused (body_of body) rest
+front_of-append : (n : ℕ) (body rest : List ℕ) → length body ≡ n →
+    front_of (head n (body ++ rest)) ≡ whole_or_refused (body_of body) rest
 front_of-append n body rest is =
     let enough : nat_lt (length (body ++ rest)) n ≡ false = let len = length-append body rest in grind (arith, nat_tests) in
     ap (λ t. cond t part (whole_or_refused (body_of (take n (body ++ rest))) (drop n (body ++ rest)))) enough
     ∙ (ap (λ bytes. whole_or_refused (body_of bytes) (drop n (body ++ rest))) (take_at body rest n is)
-      ∙ ap (λ bytes. whole_or_refused (body_of body) bytes) (drop_at body rest n is))
+    ∙ ap (λ bytes. whole_or_refused (body_of body) bytes) (drop_at body rest n is))
 
 -- A form of a request, with any bytes behind it, is read as that request.
-pub form_is_read : (request : Request) (text rest : List ℕ) → IsForm request text → front (text ++ rest) ≡ whole request rest
+pub form_is_read : (request : Request) (text rest : List ℕ) → IsForm request text →
+    front (text ++ rest) ≡ whole request rest
 unfolding front
 form_is_read request text rest form =
     let body = body_text request in
@@ -89,7 +100,7 @@ form_is_read request text rest form =
     let behind_front : List ℕ = form.digits ++ (HEAD_END.now ++ behind_head) in
     ap (λ bytes. front_of (head_at (bytes ++ rest))) form.is
     ∙ (ap (λ bytes. front_of (head_at bytes)) (regroup_form HEAD_FRONT.now form.digits HEAD_END.now (body_text request) rest)
-      ∙ (ap (λ x. front_of (head_behind x)) (after_text-append HEAD_FRONT.now behind_front)
-        ∙ (ap front_of (announced_at-append form.digits behind_head (length (body_text request)) form.tells)
-          ∙ (front_of-append (length (body_text request)) (body_text request) rest refl
-            ∙ ap (λ x. whole_or_refused x rest) (body_of-text request form.asked)))))
+    ∙ (ap (λ x. front_of (head_behind x)) (after_text-append HEAD_FRONT.now behind_front)
+    ∙ (ap front_of (announced_at-append form.digits behind_head (length (body_text request)) form.tells)
+    ∙ (front_of-append (length (body_text request)) (body_text request) rest refl
+    ∙ ap (λ x. whole_or_refused x rest) (body_of-text request form.asked)))))

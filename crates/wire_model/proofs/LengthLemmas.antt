@@ -11,14 +11,16 @@ BoundsBehind text bytes too_short = bytes < text
 BoundsBehind text bytes different = Unit {0}
 
 -- one byte more of the text and of the bytes
-bounds_behind_if : (t : Bool) (m n : ℕ) (x : Behind) → BoundsBehind m n x → BoundsBehind (suc m) (suc n) (cond t x different)
+bounds_behind_if : (t : Bool) (m n : ℕ) (x : Behind) → BoundsBehind m n x →
+    BoundsBehind (suc m) (suc n) (cond t x different)
 bounds_behind_if true m n (behind rest) h = omega arith
 bounds_behind_if true m n too_short h = omega arith
 bounds_behind_if true m n different h = tt
 bounds_behind_if false m n x h = tt
 
 -- how long bytes are that begin with a text, or with a part of it
-after_text_bounds : (text bytes : List ℕ) → BoundsBehind (length text) (length bytes) (after_text text bytes)
+after_text_bounds : (text bytes : List ℕ) →
+    BoundsBehind (length text) (length bytes) (after_text text bytes)
 unfolding after_text
 after_text_bounds [] bytes = omega arith
 after_text_bounds (c ∷ text) [] = omega arith
@@ -31,20 +33,23 @@ BoundsHead most k bytes part_of_head = bytes < k + 4
 BoundsHead most k bytes no_head = Unit {0}
 
 -- where no more digits come
-ended_bounds : (most n k bytes : ℕ) (x : Behind) → n ≤ most → BoundsBehind 4 bytes x → BoundsHead most k bytes (ended_head n x)
+ended_bounds : (most n k bytes : ℕ) (x : Behind) → n ≤ most → BoundsBehind 4 bytes x →
+    BoundsHead most k bytes (ended_head n x)
 ended_bounds most n k bytes (behind rest) small h = (omega arith, small)
 ended_bounds most n k bytes too_short small h = omega arith
 ended_bounds most n k bytes different small h = tt
 
 -- one digit more
-more_bounds : (t : Bool) (most k bytes : ℕ) (x y : Head) → (t ≡ true → BoundsHead most k bytes x) → BoundsHead most (suc k) (suc bytes) y → BoundsHead most (suc k) (suc bytes) (cond t x y)
+more_bounds : (t : Bool) (most k bytes : ℕ) (x y : Head) → (t ≡ true → BoundsHead most k bytes x) →
+    BoundsHead most (suc k) (suc bytes) y → BoundsHead most (suc k) (suc bytes) (cond t x y)
 more_bounds true most k bytes (head announced rest) y h g = let it = h refl in (omega (arith, it.0), it.1)
 more_bounds true most k bytes part_of_head y h g = let it = h refl in omega (arith, it)
 more_bounds true most k bytes no_head y h g = tt
 more_bounds false most k bytes x y h g = g
 
 -- behind three digits
-bounds_0 : (n : ℕ) (bytes : List ℕ) → n ≤ 999 → BoundsHead 999 0 (length bytes) (digits_then_end n 0 bytes)
+bounds_0 : (n : ℕ) (bytes : List ℕ) → n ≤ 999 →
+    BoundsHead 999 0 (length bytes) (digits_then_end n 0 bytes)
 unfolding digits_then_end
 bounds_0 n bytes small = ended_bounds 999 n 0 (length bytes) _ small (after_text_bounds HEAD_END.now bytes)
 
@@ -53,14 +58,16 @@ digit_small : (b : ℕ) → is_digit b ≡ true → b - 48 ≤ 9
 digit_small b h = grind (arith, nat_tests)
 
 -- up to one digit more
-bounds_1 : (n : ℕ) (bytes : List ℕ) → n ≤ 99 → BoundsHead 999 1 (length bytes) (digits_then_end n 1 bytes)
+bounds_1 : (n : ℕ) (bytes : List ℕ) → n ≤ 99 →
+    BoundsHead 999 1 (length bytes) (digits_then_end n 1 bytes)
 unfolding digits_then_end
 bounds_1 n [] small = omega arith
 bounds_1 n (b ∷ bytes) small =
     more_bounds (is_digit b) 999 0 (length bytes) _ _ (λ is. let d = digit_small b is in bounds_0 (10 * n + (b - 48)) bytes (omega arith)) (ended_bounds 999 n 1 (suc (length bytes)) _ (omega arith) (after_text_bounds HEAD_END.now (b ∷ bytes)))
 
 -- up to two digits more
-bounds_2 : (n : ℕ) (bytes : List ℕ) → n ≤ 9 → BoundsHead 999 2 (length bytes) (digits_then_end n 2 bytes)
+bounds_2 : (n : ℕ) (bytes : List ℕ) → n ≤ 9 →
+    BoundsHead 999 2 (length bytes) (digits_then_end n 2 bytes)
 unfolding digits_then_end
 bounds_2 n [] small = omega arith
 bounds_2 n (b ∷ bytes) small =
@@ -80,22 +87,26 @@ BoundsWhole bytes part_of_head = bytes < 76
 BoundsWhole bytes no_head = Unit {0}
 
 -- with the 69 bytes of the fixed front
-widened : (bytes rest : ℕ) (x : Head) → bytes ≡ 69 + rest → BoundsHead 999 3 rest x → BoundsWhole bytes x
+widened : (bytes rest : ℕ) (x : Head) → bytes ≡ 69 + rest → BoundsHead 999 3 rest x →
+    BoundsWhole bytes x
 widened bytes rest (head announced more) is h = (omega (arith, h.0), h.1)
 widened bytes rest part_of_head is h = omega arith
 widened bytes rest no_head is h = tt
 
 -- what stands behind the fixed front
-head_behind_bounds : (bytes : ℕ) (x : Behind) → BoundsBehind 69 bytes x → BoundsWhole bytes (head_behind x)
+head_behind_bounds : (bytes : ℕ) (x : Behind) → BoundsBehind 69 bytes x →
+    BoundsWhole bytes (head_behind x)
 head_behind_bounds bytes (behind rest) h = widened bytes (length rest) _ h (announced_bounds rest)
 head_behind_bounds bytes too_short h = omega arith
 head_behind_bounds bytes different h = tt
 
 -- what is only a part of a request has fewer bytes than the longest one
-front_of_bounds : (bytes : ℕ) (x : Head) → BoundsWhole bytes x → front_of x ≡ part → bytes < MAX_REQUEST
+front_of_bounds : (bytes : ℕ) (x : Head) → BoundsWhole bytes x → front_of x ≡ part →
+    bytes < MAX_REQUEST
 front_of_bounds bytes (head announced rest) h is = part_only (nat_lt (length rest) announced) (body_of (take announced rest)) refl is
   where
-    part_only : (t : Bool) (body : Option Request) → nat_lt (length rest) announced ≡ t → cond t part (whole_or_refused body (drop announced rest)) ≡ part → bytes < MAX_REQUEST
+    part_only : (t : Bool) (body : Option Request) → nat_lt (length rest) announced ≡ t →
+        cond t part (whole_or_refused body (drop announced rest)) ≡ part → bytes < MAX_REQUEST
     part_only true body lt i = let few : length rest < announced = grind (arith, nat_tests) in omega (arith, h.0, h.1)
     part_only false (Some request) lt i = cc
     part_only false None lt i = cc

@@ -13,7 +13,8 @@ pub number_model : IsNumeralModel (λ ds. list_all is_digit ds ≡ true) (number
 number_model = numerals_by_fold _ (search rules) number_after (search rules)
 
 -- digits without a zero in front, of an id of a page
-writes-from_parts : (ds : List ℕ) → 48 < get_or ds 0 0 → length ds ≤ 7 → 1 ≤ number_after 0 ds → number_after 0 ds ≤ 1000000 → writes_page_id ds ≡ true
+writes-from_parts : (ds : List ℕ) → 48 < get_or ds 0 0 → length ds ≤ 7 → 1 ≤ number_after 0 ds →
+    number_after 0 ds ≤ 1000000 → writes_page_id ds ≡ true
 writes-from_parts [] first few low high = absurd (omega arith)
 writes-from_parts (d ∷ ds) first few low high =
     let no_zero : nat_eq d 48 ≡ false = grind (arith, nat_tests) in
@@ -22,7 +23,8 @@ writes-from_parts (d ∷ ds) first few low high =
     let below : nat_le (number_after 0 (d ∷ ds)) 1000000 ≡ true = grind (arith, nat_tests) in
     all_four (nat_eq d 48) _ _ _ no_zero short above below
   where
-    all_four : (a b c e : Bool) → a ≡ false → b ≡ true → c ≡ true → e ≡ true → (not a && (b && (c && e))) ≡ true
+    all_four : (a b c e : Bool) → a ≡ false → b ≡ true → c ≡ true → e ≡ true →
+        (not a && (b && (c && e))) ≡ true
     all_four a b c e p q r s = cc
 
 -- an id's digits, read back, are the id
@@ -40,7 +42,8 @@ writes-decimal n low high =
     writes-from_parts (decimal n) (first_decimal n (omega arith) (omega arith)) (length-decimal-le 7 n (omega arith) (omega arith) (omega arith)) (omega (arith, same)) (omega (arith, same))
 
 -- digits that write an id are those of its number, which is in range
-pub writes_gives : (ds : List ℕ) → list_all is_digit ds ≡ true → writes_page_id ds ≡ true → (1 ≤ number_after 0 ds) × (number_after 0 ds ≤ 1000000) × (decimal (number_after 0 ds) ≡ ds)
+pub writes_gives : (ds : List ℕ) → list_all is_digit ds ≡ true → writes_page_id ds ≡ true →
+    (1 ≤ number_after 0 ds) × (number_after 0 ds ≤ 1000000) × (decimal (number_after 0 ds) ≡ ds)
 writes_gives [] all is = absurd (cc)
 writes_gives (d ∷ ds) all is =
     let no_zero = first_so (not (nat_eq d 48)) _ is in

@@ -11,7 +11,8 @@ SplitsBehind text bytes too_short = Unit {0}
 SplitsBehind text bytes different = Unit {0}
 
 -- one byte that is the same, in front of both
-splits_behind_if : (t : Bool) (b c : ℕ) (text bytes : List ℕ) (x : Behind) → nat_eq b c ≡ t → SplitsBehind text bytes x → SplitsBehind (c ∷ text) (b ∷ bytes) (cond t x different)
+splits_behind_if : (t : Bool) (b c : ℕ) (text bytes : List ℕ) (x : Behind) → nat_eq b c ≡ t →
+    SplitsBehind text bytes x → SplitsBehind (c ∷ text) (b ∷ bytes) (cond t x different)
 splits_behind_if true b c text bytes (behind rest) is h =
     let same : b ≡ c = grind (arith, nat_tests) in cc
 splits_behind_if true b c text bytes too_short is h = tt
@@ -32,12 +33,14 @@ SplitsHead bytes part_of_head = Unit {0}
 SplitsHead bytes no_head = Unit {0}
 
 -- one of two, by a test
-splits_head_if : (t : Bool) (bytes : List ℕ) (x y : Head) → SplitsHead bytes x → SplitsHead bytes y → SplitsHead bytes (cond t x y)
+splits_head_if : (t : Bool) (bytes : List ℕ) (x y : Head) → SplitsHead bytes x →
+    SplitsHead bytes y → SplitsHead bytes (cond t x y)
 splits_head_if true bytes x y h k = h
 splits_head_if false bytes x y h k = k
 
 -- the end of a head and what stands behind it
-ended_splits : (n : ℕ) (bytes : List ℕ) (x : Behind) → SplitsBehind HEAD_END.now bytes x → SplitsHead bytes (ended_head n x)
+ended_splits : (n : ℕ) (bytes : List ℕ) (x : Behind) → SplitsBehind HEAD_END.now bytes x →
+    SplitsHead bytes (ended_head n x)
 ended_splits n bytes (behind rest) h = (HEAD_END.now, h)
 ended_splits n bytes too_short h = tt
 ended_splits n bytes different h = tt
@@ -69,13 +72,15 @@ SplitsWhole bytes part_of_head = Unit {0}
 SplitsWhole bytes no_head = Unit {0}
 
 -- the same behind the fixed front
-fronted : (bytes rest : List ℕ) (x : Head) → bytes ≡ HEAD_FRONT.now ++ rest → SplitsHead rest x → SplitsWhole bytes x
+fronted : (bytes rest : List ℕ) (x : Head) → bytes ≡ HEAD_FRONT.now ++ rest → SplitsHead rest x →
+    SplitsWhole bytes x
 fronted bytes rest (head announced more) is h = (h.0, is ∙ (ap (λ xs. HEAD_FRONT.now ++ xs) h.1 ∙ sym (append_assoc HEAD_FRONT.now h.0 more)))
 fronted bytes rest part_of_head is h = tt
 fronted bytes rest no_head is h = tt
 
 -- the same of what stands behind the fixed front
-head_behind_splits : (bytes : List ℕ) (x : Behind) → SplitsBehind HEAD_FRONT.now bytes x → SplitsWhole bytes (head_behind x)
+head_behind_splits : (bytes : List ℕ) (x : Behind) → SplitsBehind HEAD_FRONT.now bytes x →
+    SplitsWhole bytes (head_behind x)
 head_behind_splits bytes (behind rest) h = fronted bytes rest (announced_at rest) h (announced_splits rest)
 head_behind_splits bytes too_short h = tt
 head_behind_splits bytes different h = tt

@@ -14,7 +14,7 @@ abbrev pub FinalStays : Type 0
 FinalStays =
     (world : World) (bytes more : List ℕ) →
     ((request : Request) (rest : List ℕ) →
-      judge world bytes ≡ asks request rest → judge world (bytes ++ more) ≡ asks request (rest ++ more))
+    judge world bytes ≡ asks request rest → judge world (bytes ++ more) ≡ asks request (rest ++ more))
     × (judge world bytes ≡ unbuilt → judge world (bytes ++ more) ≡ unbuilt)
 
 -- what is only a part of a request is shorter than the longest request, and it is counted whole
@@ -38,7 +38,8 @@ HistoryGrowsAsTold =
 -- a form of a request, with any bytes behind it, is read as that request: nothing of the grammar is refused
 abbrev pub FormsAreRead : Type 0
 FormsAreRead =
-    (request : Request) (text rest : List ℕ) → IsForm request text → front (text ++ rest) ≡ whole request rest
+    (request : Request) (text rest : List ℕ) → IsForm request text →
+    front (text ++ rest) ≡ whole request rest
 
 -- what is read as a request is a form of it, and what is left stands behind it: nothing outside the grammar is read
 abbrev pub FormsAloneAreRead : Type 0

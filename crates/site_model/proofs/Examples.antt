@@ -26,19 +26,23 @@ replied (Ok done) = Ok done.1.reply
 replied (Err refusal) = Err refusal
 
 -- the first page of a site is page 2, at step 1 below the root
-home_is_page_2 : replied (create (new_part []) 100 1 1 (codes "home") (titled (codes "Home"))) ≡ Ok (Page 2 (codes "00010001") (codes "/home/"))
+home_is_page_2 : replied (create (new_part []) 100 1 1 (codes "home") (titled (codes "Home"))) ≡ Ok
+    (Page 2 (codes "00010001") (codes "/home/"))
 unfolding path_text step_text
 home_is_page_2 = refl
 
 -- its slug is then taken below that parent
-home_is_taken : replied (create with_home 200 1 1 (codes "home") (titled (codes "Again"))) ≡ Err (SlugTaken 2)
+home_is_taken : replied (create with_home 200 1 1 (codes "home") (titled (codes "Again"))) ≡ Err
+    (SlugTaken 2)
 home_is_taken = refl
 
 -- below the new page the slug is free
-home_below_home : replied (create with_home 200 1 2 (codes "home") (titled (codes "Again"))) ≡ Ok (Page 3 (codes "000100010001") (codes "/home/home/"))
+home_below_home : replied (create with_home 200 1 2 (codes "home") (titled (codes "Again"))) ≡ Ok
+    (Page 3 (codes "000100010001") (codes "/home/home/"))
 unfolding path_text step_text
 home_below_home = refl
 
 -- a parent that is no page is refused by its number
-no_page_9 : replied (create with_home 200 1 9 (codes "home") (titled (codes "Home"))) ≡ Err (NoPage 9)
+no_page_9 : replied (create with_home 200 1 9 (codes "home") (titled (codes "Home"))) ≡ Err
+    (NoPage 9)
 no_page_9 = refl

@@ -1,4 +1,5 @@
--- The definitions at worked values: a request, what becomes of its bytes, and the texts of three answers.
+-- The definitions at worked values: a request, what becomes of its bytes, and the texts of three
+-- answers.
 use Rattle.std.proofs.Common.{◌≡◌, ℕ, false, true, List, [], ◌∷◌, ◌++◌, take, refl, codes}
 use Rattle.std.specs.Fmt.{decimal, digits}
 use Rattle.site_types.specs.declared.refusal.Refusal.TheVariants.{SlugTaken}
@@ -41,16 +42,23 @@ unfolding front after_text digits_then_end announced_at body_of
 another_method_is_refused = refl
 
 -- the answer to it as the first entry of a new site
-home_answer : answer_text (accepted_as 1 (Page 2 (codes "00010001") (codes "/home/"))) false ≡ line (codes "HTTP/1.1 200 OK") ++ line (codes "Content-Length: 51") ++ line (codes "Content-Type: application/json") ++ crlf ++ codes "{\"entry\":1,\"id\":2,\"path\":\"00010001\",\"url\":\"/home/\"}"
+home_answer : answer_text (accepted_as 1 (Page 2 (codes "00010001") (codes "/home/"))) false ≡ line
+    (codes "HTTP/1.1 200 OK") ++ line (codes "Content-Length: 51") ++ line
+    (codes "Content-Type: application/json") ++ crlf ++ codes
+    "{\"entry\":1,\"id\":2,\"path\":\"00010001\",\"url\":\"/home/\"}"
 unfolding answer_text response digits
 home_answer = refl
 
 -- the answer where the slug is taken
-taken_answer : answer_text (refused_by (SlugTaken 2)) false ≡ line (codes "HTTP/1.1 409 Conflict") ++ line (codes "Content-Length: 41") ++ line (codes "Content-Type: application/json") ++ crlf ++ codes "{\"name\":\"SlugTaken\",\"refused\":8,\"with\":2}"
+taken_answer : answer_text (refused_by (SlugTaken 2)) false ≡ line (codes "HTTP/1.1 409 Conflict")
+    ++ line (codes "Content-Length: 41") ++ line (codes "Content-Type: application/json") ++ crlf ++
+    codes "{\"name\":\"SlugTaken\",\"refused\":8,\"with\":2}"
 unfolding answer_text response digits
 taken_answer = refl
 
 -- the answer to what is not built
-not_built_answer : not_built_text ≡ line (codes "HTTP/1.1 501 Not Implemented") ++ line (codes "Content-Length: 20") ++ line (codes "Content-Type: application/json") ++ line (codes "Connection: close") ++ crlf ++ codes "{\"error\":\"NotBuilt\"}"
+not_built_answer : not_built_text ≡ line (codes "HTTP/1.1 501 Not Implemented") ++ line
+    (codes "Content-Length: 20") ++ line (codes "Content-Type: application/json") ++ line
+    (codes "Connection: close") ++ crlf ++ codes "{\"error\":\"NotBuilt\"}"
 unfolding not_built_text response digits
 not_built_answer = refl

@@ -31,11 +31,13 @@ request_of_gives : (title ds slug rest : List ℕ) (request : Request) →
     request_of title ds slug rest ≡ Some request → Parts title ds slug rest request
 request_of_gives title ds slug (b ∷ rest) request is = absurd (cc)
 request_of_gives title ds slug [] request is =
-    chosen (is_title_length (length title)) (writes_page_id ds) (is_title_length (length slug)) refl refl refl is
+    chosen (is_title_length (length title)) (writes_page_id ds) (is_title_length (length slug)) refl
+    refl refl is
   where
     chosen : (a b c : Bool) → is_title_length (length title) ≡ a → writes_page_id ds ≡ b →
         is_title_length (length slug) ≡ c →
-        cond (a && (b && c)) (Some (record { parent = number_after 0 ds; slug = slug; title = title })) None ≡ Some request →
+        cond (a && (b && c)) (Some (record
+        { parent = number_after 0 ds; slug = slug; title = title })) None ≡ Some request →
         Parts title ds slug [] request
     chosen true true true p q r is =
         record { nothing_left = refl; title_fits = p; writes = q; slug_fits = r; is = cc }
@@ -57,7 +59,9 @@ length_gives n is = (low n (first_so (nat_le 1 n) _ is), high n (second_so (nat_
 body_from_parts : (title ds slug rest : List ℕ) (request : Request) →
     list_all is_title_byte title ≡ true → list_all is_digit ds ≡ true →
     list_all is_slug_byte slug ≡ true → Parts title ds slug rest request →
-    IsAsked request × (BODY_TITLE.now ++ (title ++ (BODY_PARENT.now ++ (ds ++ (BODY_SLUG.now ++ (slug ++ (BODY_END.now ++ rest)))))) ≡ body_text request)
+    IsAsked request × (BODY_TITLE.now ++ (title ++
+    (BODY_PARENT.now ++ (ds ++ (BODY_SLUG.now ++ (slug ++ (BODY_END.now ++ rest)))))) ≡
+    body_text request)
 body_from_parts title ds slug rest request titles digits slugs parts =
     let made : Request = record { parent = number_after 0 ds; slug = slug; title = title } in
     let number = writes_gives ds digits parts.writes in
@@ -71,9 +75,14 @@ body_from_parts title ds slug rest request titles digits slugs parts =
       slug = record { not_empty = slug_range.0; fits = slug_range.1; allowed = slugs };
     } in (
       subst IsAsked (sym parts.is) asked,
-      ap (λ bytes. BODY_TITLE.now ++ (title ++ (BODY_PARENT.now ++ (ds ++ (BODY_SLUG.now ++ (slug ++ (BODY_END.now ++ bytes))))))) parts.nothing_left
-          ∙ (ap (λ bytes. BODY_TITLE.now ++ (title ++ (BODY_PARENT.now ++ (bytes ++ (BODY_SLUG.now ++ (slug ++ (BODY_END.now ++ []))))))) (sym number.2)
-          ∙ (sym (regroup_body BODY_TITLE.now title BODY_PARENT.now (decimal (number_after 0 ds)) BODY_SLUG.now slug BODY_END.now)
+      ap (λ bytes. BODY_TITLE.now ++ (title ++
+          (BODY_PARENT.now ++ (ds ++ (BODY_SLUG.now ++ (slug ++ (BODY_END.now ++ bytes)))))))
+          parts.nothing_left
+          ∙ (ap (λ bytes. BODY_TITLE.now ++
+          (title ++ (BODY_PARENT.now ++
+          (bytes ++ (BODY_SLUG.now ++ (slug ++ (BODY_END.now ++ []))))))) (sym number.2)
+          ∙ (sym (regroup_body BODY_TITLE.now title BODY_PARENT.now (decimal (number_after 0 ds))
+          BODY_SLUG.now slug BODY_END.now)
           ∙ ap body_text (sym parts.is))),
     )
 
@@ -83,12 +92,20 @@ pub body_gives : (body : List ℕ) (request : Request) → body_of body ≡ Some
 unfolding body_of
 body_gives body request is =
     let front_found = cut_gives (after_text BODY_TITLE.now body) body_title request is in
-    let front_is = subst (SplitsBehind BODY_TITLE.now body) front_found.1 (after_text_splits BODY_TITLE.now body) in
-    let title = scanned_gives is_title_byte BODY_PARENT.now body_parent front_found.0 request front_found.2 in
+    let front_is = subst (SplitsBehind BODY_TITLE.now body) front_found.1
+    (after_text_splits BODY_TITLE.now body) in
+    let title = scanned_gives is_title_byte BODY_PARENT.now body_parent front_found.0 request
+    front_found.2 in
     let parent = scanned_gives is_digit BODY_SLUG.now (body_end title.0) title.1 request title.4 in
-    let slug = scanned_gives is_slug_byte BODY_END.now (request_of title.0 parent.0) parent.1 request parent.4 in
-    let made = body_from_parts title.0 parent.0 slug.0 slug.1 request title.3 parent.3 slug.3 (request_of_gives title.0 parent.0 slug.0 slug.1 request slug.4) in
-    (made.0, joined BODY_TITLE.now BODY_PARENT.now BODY_SLUG.now BODY_END.now body front_found.0 title.1 parent.1 title.0 parent.0 slug.0 slug.1 (body_text request) front_is title.2 parent.2 slug.2 made.1)
+    let slug = scanned_gives is_slug_byte BODY_END.now (request_of title.0 parent.0) parent.1
+    request parent.4 in
+    let made = body_from_parts title.0 parent.0 slug.0 slug.1 request title.3 parent.3 slug.3
+    (request_of_gives title.0 parent.0 slug.0 slug.1 request slug.4) in (
+      made.0,
+      joined BODY_TITLE.now BODY_PARENT.now BODY_SLUG.now BODY_END.now body front_found.0
+          title.1 parent.1 title.0 parent.0 slug.0 slug.1 (body_text request) front_is title.2
+          parent.2 slug.2 made.1,
+    )
   where
     joined : (t p s e body a b c xs ys zs rest text : List ℕ) → body ≡ t ++ a → a ≡ xs ++ (p ++ b) →
         b ≡ ys ++ (s ++ c) → c ≡ zs ++ (e ++ rest) →
@@ -135,7 +152,9 @@ unfolding digits_then_end
 digits_then_end_gives n zero bytes = ended_gives n 0 bytes _ (after_text_splits HEAD_END.now bytes)
 digits_then_end_gives n (suc k) [] = tt
 digits_then_end_gives n (suc k) (b ∷ bytes) =
-    gives_if (is_digit b) n (suc k) (b ∷ bytes) _ _ (λ is. digit_gives n k b bytes _ is (digits_then_end_gives (10 * n + (b - 48)) k bytes)) (ended_gives n (suc k) (b ∷ bytes) _ (after_text_splits HEAD_END.now (b ∷ bytes)))
+    gives_if (is_digit b) n (suc k) (b ∷ bytes) _ _
+    (λ is. digit_gives n k b bytes _ is (digits_then_end_gives (10 * n + (b - 48)) k bytes))
+    (ended_gives n (suc k) (b ∷ bytes) _ (after_text_splits HEAD_END.now (b ∷ bytes)))
 
 -- the digits that tell the length, the end of a head and what follows it are the bytes
 abbrev GivesLength : List ℕ → Head → Type 0
@@ -150,7 +169,12 @@ first_digit_gives : (b : ℕ) (bytes : List ℕ) (x : Head) → is_digit b ≡ t
 first_digit_gives b bytes (head m rest) is h =
     let first : 10 * 0 + (b - 48) ≡ b - 48 = omega arith in (
       b ∷ h.0,
-      record { some = omega arith; few = omega (arith, h.1); all = both (is_digit b) _ is h.2; value = ap (λ k. number_after k h.0) first ∙ h.3 },
+      record {
+        some = omega arith;
+        few = omega (arith, h.1);
+        all = both (is_digit b) _ is h.2;
+        value = ap (λ k. number_after k h.0) first ∙ h.3;
+      },
       ap (λ bs. b ∷ bs) h.4,
     )
   where
@@ -187,13 +211,15 @@ fronted_gives bytes rest no_head is h = tt
 -- the same of what stands behind the fixed front
 head_behind_gives : (bytes : List ℕ) (x : Behind) → SplitsBehind HEAD_FRONT.now bytes x →
     GivesHead bytes (head_behind x)
-head_behind_gives bytes (behind rest) h = fronted_gives bytes rest (announced_at rest) h (announced_at_gives rest)
+head_behind_gives bytes (behind rest) h = fronted_gives bytes rest (announced_at rest) h
+    (announced_at_gives rest)
 head_behind_gives bytes too_short h = tt
 head_behind_gives bytes different h = tt
 
 -- a head at the front is a head's text
 head_at_gives : (bytes : List ℕ) → GivesHead bytes (head_at bytes)
-head_at_gives bytes = head_behind_gives bytes (after_text HEAD_FRONT.now bytes) (after_text_splits HEAD_FRONT.now bytes)
+head_at_gives bytes = head_behind_gives bytes (after_text HEAD_FRONT.now bytes)
+    (after_text_splits HEAD_FRONT.now bytes)
 
 -- a whole request that a head and its body make, has a form at the front
 front_of_gives : (bytes : List ℕ) (x : Head) (request : Request) (rest : List ℕ) →
@@ -205,12 +231,15 @@ front_of_gives bytes (head n more) request rest h is = enough (nat_lt (length mo
         (text : List ℕ) × IsForm request text × (bytes ≡ text ++ rest)
     formed le read left =
         let body = body_gives (take n more) request read in
-        let many : length (body_text request) ≡ n = ap length (sym body.1) ∙ length-take-le n more le in
+        let many : length (body_text request) ≡ n = ap length (sym body.1) ∙ length-take-le n more
+        le in
         let tells = subst (WritesLength h.0) (sym many) h.1 in
-        let joined : more ≡ body_text request ++ rest = sym (take-append-drop n more) ∙ (ap (λ bs. bs ++ drop n more) body.1 ∙ ap (λ bs. body_text request ++ bs) left) in (
+        let joined : more ≡ body_text request ++ rest = sym (take-append-drop n more) ∙
+        (ap (λ bs. bs ++ drop n more) body.1 ∙ ap (λ bs. body_text request ++ bs) left) in (
           form_text h.0 request,
           record { asked = body.0; digits = h.0; tells = tells; is = refl },
-          h.2 ∙ (ap (λ bs. HEAD_FRONT.now ++ (h.0 ++ (HEAD_END.now ++ bs))) joined ∙ sym (regroup_form HEAD_FRONT.now h.0 HEAD_END.now (body_text request) rest)),
+          h.2 ∙ (ap (λ bs. HEAD_FRONT.now ++ (h.0 ++ (HEAD_END.now ++ bs))) joined ∙ sym
+              (regroup_form HEAD_FRONT.now h.0 HEAD_END.now (body_text request) rest)),
         )
 
     read_body : (o : Option Request) → n ≤ length more → body_of (take n more) ≡ o →
@@ -236,7 +265,8 @@ pub form_was_read : (bytes : List ℕ) (request : Request) (rest : List ℕ) →
     front bytes ≡ whole request rest →
     (text : List ℕ) × IsForm request text × (bytes ≡ text ++ rest)
 unfolding front
-form_was_read bytes request rest is = front_of_gives bytes (head_at bytes) request rest (head_at_gives bytes) is
+form_was_read bytes request rest is = front_of_gives bytes (head_at bytes) request rest
+    (head_at_gives bytes) is
 
 -- what stands at the front of a form that lacks bytes
 cut_front : (x : Front) (request : Request) (lacking : List ℕ) →
@@ -251,8 +281,10 @@ cut_front refused request lacking h some = absurd (cc)
 pub cut_form_is_part : (request : Request) (text lacking : List ℕ) →
     IsForm request (text ++ lacking) → 0 < length lacking → front text ≡ part
 cut_form_is_part request text lacking form some =
-    let all : front (text ++ lacking) ≡ whole request [] = ap front (sym (append-nil (text ++ lacking))) ∙ form_is_read request (text ++ lacking) [] form in
-    cut_front (front text) request lacking (subst (λ x. GrowsFront (front text) x lacking) all (front_grows text lacking)) some
+    let all : front (text ++ lacking) ≡ whole request [] = ap front
+    (sym (append-nil (text ++ lacking))) ∙ form_is_read request (text ++ lacking) [] form in
+    cut_front (front text) request lacking
+    (subst (λ x. GrowsFront (front text) x lacking) all (front_grows text lacking)) some
 
 -- a request that is asked is whole at the front
 asked_is_whole : (world : World) (n : ℕ) (x : Front) (request : Request) (rest : List ℕ) →
@@ -270,7 +302,8 @@ asked_is_whole world n refused request rest is = absurd (cc)
 asks_gives : (world : World) (bytes : List ℕ) (request : Request) (rest : List ℕ) →
     judge world bytes ≡ asks request rest → front bytes ≡ whole request rest
 asks_gives world [] request rest is = absurd (cc)
-asks_gives world (b ∷ bytes) request rest is = asked_is_whole world (length (b ∷ bytes)) (front (b ∷ bytes)) request rest is
+asks_gives world (b ∷ bytes) request rest is = asked_is_whole world (length (b ∷ bytes))
+    (front (b ∷ bytes)) request rest is
 
 -- the bytes that a transcript reads are forms of its requests
 pub transcript_reads_forms : (past after : Past) (bytes rest : List ℕ) (told : List Told) →
@@ -278,7 +311,8 @@ pub transcript_reads_forms : (past after : Past) (bytes rest : List ℕ) (told :
     (text : List ℕ) × AreForms told text × (bytes ≡ text ++ rest)
 transcript_reads_forms past after bytes rest [] h = ([], refl, sym h.1)
 transcript_reads_forms past after bytes rest (x ∷ told) h =
-    let first = form_was_read bytes x.request h.0 (asks_gives (tally_of past).world bytes x.request h.0 h.2) in
+    let first = form_was_read bytes x.request h.0
+    (asks_gives (tally_of past).world bytes x.request h.0 h.2) in
     let others = transcript_reads_forms h.1 after h.0 rest told h.4 in (
       first.0 ++ others.0,
       (first.0, others.0, first.1, others.1, refl),

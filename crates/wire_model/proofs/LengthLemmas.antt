@@ -24,7 +24,8 @@ after_text_bounds : (text bytes : List ℕ) →
 unfolding after_text
 after_text_bounds [] bytes = omega arith
 after_text_bounds (c ∷ text) [] = omega arith
-after_text_bounds (c ∷ text) (b ∷ bytes) = bounds_behind_if (nat_eq b c) (length text) (length bytes) _ (after_text_bounds text bytes)
+after_text_bounds (c ∷ text) (b ∷ bytes) = bounds_behind_if (nat_eq b c) (length text)
+    (length bytes) _ (after_text_bounds text bytes)
 
 -- how long bytes are behind the front of a head with up to k digits more, and what is announced
 abbrev BoundsHead : ℕ → ℕ → ℕ → Head → Type 0
@@ -42,7 +43,8 @@ ended_bounds most n k bytes different small h = tt
 -- one digit more
 more_bounds : (t : Bool) (most k bytes : ℕ) (x y : Head) → (t ≡ true → BoundsHead most k bytes x) →
     BoundsHead most (suc k) (suc bytes) y → BoundsHead most (suc k) (suc bytes) (cond t x y)
-more_bounds true most k bytes (head announced rest) y h g = let it = h refl in (omega (arith, it.0), it.1)
+more_bounds true most k bytes (head announced rest) y h g = let it = h refl in
+    (omega (arith, it.0), it.1)
 more_bounds true most k bytes part_of_head y h g = let it = h refl in omega (arith, it)
 more_bounds true most k bytes no_head y h g = tt
 more_bounds false most k bytes x y h g = g
@@ -51,7 +53,8 @@ more_bounds false most k bytes x y h g = g
 bounds_0 : (n : ℕ) (bytes : List ℕ) → n ≤ 999 →
     BoundsHead 999 0 (length bytes) (digits_then_end n 0 bytes)
 unfolding digits_then_end
-bounds_0 n bytes small = ended_bounds 999 n 0 (length bytes) _ small (after_text_bounds HEAD_END.now bytes)
+bounds_0 n bytes small = ended_bounds 999 n 0 (length bytes) _ small
+    (after_text_bounds HEAD_END.now bytes)
 
 -- a digit is 9 at most
 digit_small : (b : ℕ) → is_digit b ≡ true → b - 48 ≤ 9
@@ -63,7 +66,10 @@ bounds_1 : (n : ℕ) (bytes : List ℕ) → n ≤ 99 →
 unfolding digits_then_end
 bounds_1 n [] small = omega arith
 bounds_1 n (b ∷ bytes) small =
-    more_bounds (is_digit b) 999 0 (length bytes) _ _ (λ is. let d = digit_small b is in bounds_0 (10 * n + (b - 48)) bytes (omega arith)) (ended_bounds 999 n 1 (suc (length bytes)) _ (omega arith) (after_text_bounds HEAD_END.now (b ∷ bytes)))
+    more_bounds (is_digit b) 999 0 (length bytes) _ _
+    (λ is. let d = digit_small b is in bounds_0 (10 * n + (b - 48)) bytes (omega arith))
+    (ended_bounds 999 n 1 (suc (length bytes)) _ (omega arith)
+    (after_text_bounds HEAD_END.now (b ∷ bytes)))
 
 -- up to two digits more
 bounds_2 : (n : ℕ) (bytes : List ℕ) → n ≤ 9 →
@@ -71,14 +77,18 @@ bounds_2 : (n : ℕ) (bytes : List ℕ) → n ≤ 9 →
 unfolding digits_then_end
 bounds_2 n [] small = omega arith
 bounds_2 n (b ∷ bytes) small =
-    more_bounds (is_digit b) 999 1 (length bytes) _ _ (λ is. let d = digit_small b is in bounds_1 (10 * n + (b - 48)) bytes (omega arith)) (ended_bounds 999 n 2 (suc (length bytes)) _ (omega arith) (after_text_bounds HEAD_END.now (b ∷ bytes)))
+    more_bounds (is_digit b) 999 1 (length bytes) _ _
+    (λ is. let d = digit_small b is in bounds_1 (10 * n + (b - 48)) bytes (omega arith))
+    (ended_bounds 999 n 2 (suc (length bytes)) _ (omega arith)
+    (after_text_bounds HEAD_END.now (b ∷ bytes)))
 
 -- one to three digits announce 999 bytes at most
 announced_bounds : (bytes : List ℕ) → BoundsHead 999 3 (length bytes) (announced_at bytes)
 unfolding announced_at
 announced_bounds [] = omega arith
 announced_bounds (b ∷ bytes) =
-    more_bounds (is_digit b) 999 2 (length bytes) _ no_head (λ is. bounds_2 (b - 48) bytes (digit_small b is)) tt
+    more_bounds (is_digit b) 999 2 (length bytes) _ no_head
+    (λ is. bounds_2 (b - 48) bytes (digit_small b is)) tt
 
 -- how long bytes are that begin with a head, and what it announces
 abbrev BoundsWhole : ℕ → Head → Type 0
@@ -103,11 +113,13 @@ head_behind_bounds bytes different h = tt
 -- what is only a part of a request has fewer bytes than the longest one
 front_of_bounds : (bytes : ℕ) (x : Head) → BoundsWhole bytes x → front_of x ≡ part →
     bytes < MAX_REQUEST
-front_of_bounds bytes (head announced rest) h is = part_only (nat_lt (length rest) announced) (body_of (take announced rest)) refl is
+front_of_bounds bytes (head announced rest) h is = part_only (nat_lt (length rest) announced)
+    (body_of (take announced rest)) refl is
   where
     part_only : (t : Bool) (body : Option Request) → nat_lt (length rest) announced ≡ t →
         cond t part (whole_or_refused body (drop announced rest)) ≡ part → bytes < MAX_REQUEST
-    part_only true body lt i = let few : length rest < announced = grind (arith, nat_tests) in omega (arith, h.0, h.1)
+    part_only true body lt i = let few : length rest < announced = grind (arith, nat_tests) in omega
+        (arith, h.0, h.1)
     part_only false (Some request) lt i = cc
     part_only false None lt i = cc
 front_of_bounds bytes part_of_head h is = omega arith
@@ -116,4 +128,5 @@ front_of_bounds bytes no_head h is = cc
 -- A part of a request has fewer bytes than the longest request.
 pub part_is_short : (bytes : List ℕ) → front bytes ≡ part → length bytes < MAX_REQUEST
 unfolding front
-part_is_short bytes is = front_of_bounds (length bytes) (head_at bytes) (head_behind_bounds (length bytes) _ (after_text_bounds HEAD_FRONT.now bytes)) is
+part_is_short bytes is = front_of_bounds (length bytes) (head_at bytes)
+    (head_behind_bounds (length bytes) _ (after_text_bounds HEAD_FRONT.now bytes)) is

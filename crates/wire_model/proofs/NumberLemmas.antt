@@ -39,7 +39,9 @@ digits-decimal n high = digits_decimal number_model n (omega arith)
 pub writes-decimal : (n : ℕ) → 1 ≤ n → n ≤ 1000000 → writes_page_id (decimal n) ≡ true
 writes-decimal n low high =
     let same = number-decimal n high in
-    writes-from_parts (decimal n) (first_decimal n (omega arith) (omega arith)) (length-decimal-le 7 n (omega arith) (omega arith) (omega arith)) (omega (arith, same)) (omega (arith, same))
+    writes-from_parts (decimal n) (first_decimal n (omega arith) (omega arith))
+    (length-decimal-le 7 n (omega arith) (omega arith) (omega arith)) (omega (arith, same))
+    (omega (arith, same))
 
 -- digits that write an id are those of its number, which is in range
 pub writes_gives : (ds : List ℕ) → list_all is_digit ds ≡ true → writes_page_id ds ≡ true →
@@ -49,10 +51,16 @@ writes_gives (d ∷ ds) all is =
     let no_zero = first_so (not (nat_eq d 48)) _ is in
     let rest = second_so (not (nat_eq d 48)) _ is in
     let range = second_so (nat_le (length ds) 6) _ rest in
-    let above : 1 ≤ number_after 0 (d ∷ ds) = above_from _ _ (first_so (nat_le 1 (number_after 0 (d ∷ ds))) _ range) in
-    let below : number_after 0 (d ∷ ds) ≤ 1000000 = above_from _ _ (second_so (nat_le 1 (number_after 0 (d ∷ ds))) _ range) in
-    let differs : d ≡ 48 → length (d ∷ ds) ≡ 1 = λ e. absurd (not_zero d no_zero e) in
-    (above, below, decimal-digits_value number_model (d ∷ ds) all (omega arith) differs (omega arith))
+    let above : 1 ≤ number_after 0 (d ∷ ds) = above_from _ _
+    (first_so (nat_le 1 (number_after 0 (d ∷ ds))) _ range) in
+    let below : number_after 0 (d ∷ ds) ≤ 1000000 = above_from _ _
+    (second_so (nat_le 1 (number_after 0 (d ∷ ds))) _ range) in
+    let differs : d ≡ 48 → length (d ∷ ds) ≡ 1 = λ e. absurd (not_zero d no_zero e) in (
+      above,
+      below,
+      decimal-digits_value number_model (d ∷ ds) all (omega arith) differs
+          (omega arith),
+    )
   where
     above_from : (a b : ℕ) → nat_le a b ≡ true → a ≤ b
     above_from a b h = grind (arith, nat_tests)

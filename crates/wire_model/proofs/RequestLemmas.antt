@@ -1,4 +1,5 @@
--- What more bytes behind do to what stands at the front: what is whole, and what no request begins with, stays so.
+-- What more bytes behind do to what stands at the front: what is whole, and what no request begins
+-- with, stays so.
 use Rattle.std.proofs.Common.{◌≡◌, ◌≤◌, ◌<◌, ◌+◌, ◌-◌, ◌*◌, ℕ, suc, zero, Bool, true, false, List, [], ◌∷◌, ◌++◌, length, take, drop, Option, Some, None, cond, nat_eq, nat_lt, refl, sym, ap, ◌∙◌, arith, rules, ltb, length-append}
 use Rattle.std.proofs.lemmas.Bool.Decides.{nat_tests}
 use Rattle.std.proofs.lemmas.List.{take-append-le, drop-append-le}
@@ -25,7 +26,8 @@ after_text_grows : (text bytes more : List ℕ) →
 unfolding after_text
 after_text_grows [] bytes more = refl
 after_text_grows (c ∷ text) [] more = tt
-after_text_grows (c ∷ text) (b ∷ bytes) more = grows_behind_if (nat_eq b c) _ _ more (after_text_grows text bytes more)
+after_text_grows (c ∷ text) (b ∷ bytes) more = grows_behind_if (nat_eq b c) _ _ more
+    (after_text_grows text bytes more)
 
 -- a head stays with more bytes behind it, and so does what is no head
 abbrev GrowsHead : Head → Head → List ℕ → Type 0
@@ -50,17 +52,20 @@ ended_head_grows n different y more h = ap (ended_head n) h
 digits_grow : (n k : ℕ) (bytes more : List ℕ) →
     GrowsHead (digits_then_end n k bytes) (digits_then_end n k (bytes ++ more)) more
 unfolding digits_then_end
-digits_grow n zero bytes more = ended_head_grows n _ _ more (after_text_grows HEAD_END.now bytes more)
+digits_grow n zero bytes more = ended_head_grows n _ _ more
+    (after_text_grows HEAD_END.now bytes more)
 digits_grow n (suc k) [] more = tt
 digits_grow n (suc k) (b ∷ bytes) more =
-    grows_head_if (is_digit b) _ _ _ _ more (digits_grow (10 * n + (b - 48)) k bytes more) (ended_head_grows n _ _ more (after_text_grows HEAD_END.now (b ∷ bytes) more))
+    grows_head_if (is_digit b) _ _ _ _ more (digits_grow (10 * n + (b - 48)) k bytes more)
+    (ended_head_grows n _ _ more (after_text_grows HEAD_END.now (b ∷ bytes) more))
 
 -- more bytes behind what the digits announce
 announced_grows : (bytes more : List ℕ) →
     GrowsHead (announced_at bytes) (announced_at (bytes ++ more)) more
 unfolding announced_at
 announced_grows [] more = tt
-announced_grows (b ∷ bytes) more = grows_head_if (is_digit b) _ _ no_head no_head more (digits_grow (b - 48) 2 bytes more) refl
+announced_grows (b ∷ bytes) more = grows_head_if (is_digit b) _ _ no_head no_head more
+    (digits_grow (b - 48) 2 bytes more) refl
 
 -- more bytes behind the fixed front of a head
 head_behind_grows : (x y : Behind) (more : List ℕ) → GrowsBehind x y more →
@@ -87,17 +92,21 @@ body_grows None rest more = refl
 
 -- the same where the body has all its bytes, and so has them with more behind
 announced_front_grows : (t : Bool) (n : ℕ) (rest more : List ℕ) → nat_lt (length rest) n ≡ t →
-    GrowsFront (cond t part (whole_or_refused (body_of (take n rest)) (drop n rest))) (front_of (head n (rest ++ more))) more
+    GrowsFront (cond t part (whole_or_refused (body_of (take n rest)) (drop n rest)))
+    (front_of (head n (rest ++ more))) more
 announced_front_grows true n rest more is = tt
 announced_front_grows false n rest more is =
     let fits : n ≤ length rest = grind (arith, nat_tests) in
-    let longer : nat_lt (length (rest ++ more)) n ≡ false = let len = length-append rest more in grind (arith, nat_tests) in
-    rw (longer, take-append-le n rest more fits, drop-append-le n rest more fits) (body_grows (body_of (take n rest)) (drop n rest) more)
+    let longer : nat_lt (length (rest ++ more)) n ≡ false = let len = length-append rest more in
+    grind (arith, nat_tests) in
+    rw (longer, take-append-le n rest more fits, drop-append-le n rest more fits)
+    (body_grows (body_of (take n rest)) (drop n rest) more)
 
 -- more bytes behind a head and its body
 front_of_grows : (x y : Head) (more : List ℕ) → GrowsHead x y more →
     GrowsFront (front_of x) (front_of y) more
-front_of_grows (head n rest) y more h = rw h (announced_front_grows (nat_lt (length rest) n) n rest more refl)
+front_of_grows (head n rest) y more h = rw h
+    (announced_front_grows (nat_lt (length rest) n) n rest more refl)
 front_of_grows part_of_head y more h = tt
 front_of_grows no_head y more h = ap front_of h
 
@@ -115,14 +124,16 @@ GrowsJudged unbuilt later more = later ≡ unbuilt
 
 -- the same of what is asked where it is built
 judged_if : (t : Bool) (request : Request) (rest more : List ℕ) →
-    GrowsJudged (cond t (asks request rest) unbuilt) (cond t (asks request (rest ++ more)) unbuilt) more
+    GrowsJudged (cond t (asks request rest) unbuilt) (cond t (asks request (rest ++ more)) unbuilt)
+    more
 judged_if true request rest more = refl
 judged_if false request rest more = refl
 
 -- more bytes behind what is judged
 judge_front_grows : (world : World) (m n : ℕ) (x y : Front) (more : List ℕ) → GrowsFront x y more →
     GrowsJudged (judge_front world m x) (judge_front world n y) more
-judge_front_grows world m n (whole request rest) y more h = rw h (judged_if (is_built world request) request rest more)
+judge_front_grows world m n (whole request rest) y more h = rw h
+    (judged_if (is_built world request) request rest more)
 judge_front_grows world m n part y more h = tt
 judge_front_grows world m n refused y more h = rw h refl
 
@@ -130,4 +141,5 @@ judge_front_grows world m n refused y more h = rw h refl
 pub judge_grows : (world : World) (bytes more : List ℕ) →
     GrowsJudged (judge world bytes) (judge world (bytes ++ more)) more
 judge_grows world [] more = tt
-judge_grows world (b ∷ bytes) more = judge_front_grows world _ _ _ _ more (front_grows (b ∷ bytes) more)
+judge_grows world (b ∷ bytes) more = judge_front_grows world _ _ _ _ more
+    (front_grows (b ∷ bytes) more)

@@ -1,4 +1,5 @@
--- Texts at the front of bytes, and what stands before them: what is put there is found, and nothing else is.
+-- Texts at the front of bytes, and what stands before them: what is put there is found, and nothing
+-- else is.
 use Rattle.std.proofs.Common.{◌≡◌, ◌≤◌, ◌<◌, ℕ, suc, zero, Bool, true, false, List, [], ◌∷◌, ◌++◌, length, take, drop, Option, Some, None, cond, nat_eq, refl, sym, ap, subst, ◌∙◌, ◌&&◌, arith}
 use Rattle.std.specs.Cmp.{first_so, second_so}
 use Rattle.std.specs.List.{list_all, take_while, prefix_len}
@@ -36,7 +37,8 @@ take_while-stops p (x ∷ xs) ys all stop =
 pub list_all-take_while : (p : ℕ → Bool) (xs : List ℕ) → list_all p (take_while p xs) ≡ true
 list_all-take_while p [] = refl
 list_all-take_while p (x ∷ xs) =
-    subst (λ ys. list_all p ys ≡ true) (sym (take_while-cons p x xs)) (choice (p x) refl (list_all-take_while p xs))
+    subst (λ ys. list_all p ys ≡ true) (sym (take_while-cons p x xs))
+    (choice (p x) refl (list_all-take_while p xs))
   where
     choice : (t : Bool) → p x ≡ t → list_all p (take_while p xs) ≡ true →
         list_all p (cond t (x ∷ take_while p xs) []) ≡ true
@@ -59,21 +61,33 @@ cut_gives different f r is = absurd (cc)
 module _ {B : Type 0} (p : ℕ → Bool) (text : List ℕ) (f : List ℕ → List ℕ → Option B) where
   -- the bytes that pass, then the text, and what stands behind it
   abbrev pub scanned : List ℕ → Option B
-  scanned bytes = cut (after_text text (drop (length (take_while p bytes)) bytes)) >>= f (take_while p bytes)
+  scanned bytes = cut (after_text text (drop (length (take_while p bytes)) bytes)) >>= f
+      (take_while p bytes)
 
   -- what is put there is found
   pub scanned-append : (xs rest : List ℕ) → list_all p xs ≡ true → Stops p (text ++ rest) →
       scanned (xs ++ (text ++ rest)) ≡ f xs rest
   scanned-append xs rest all stop =
-      ap (λ t. cut (after_text text (drop (length t) (xs ++ (text ++ rest)))) >>= f t) (take_while-stops p xs (text ++ rest) all stop)
-      ∙ (ap (λ bytes. cut (after_text text bytes) >>= f xs) (drop_at xs (text ++ rest) (length xs) refl)
+      ap (λ t. cut (after_text text (drop (length t) (xs ++ (text ++ rest)))) >>= f t)
+      (take_while-stops p xs (text ++ rest) all stop)
+      ∙ (ap (λ bytes. cut (after_text text bytes) >>= f xs)
+      (drop_at xs (text ++ rest) (length xs) refl)
       ∙ ap (λ x. cut x >>= f xs) (after_text-append text rest))
 
   -- what is found was put there
   pub scanned_gives : (bytes : List ℕ) (r : B) → scanned bytes ≡ Some r →
-      (xs rest : List ℕ) × (bytes ≡ xs ++ (text ++ rest)) × (list_all p xs ≡ true) × (f xs rest ≡ Some r)
+      (xs rest : List ℕ) × (bytes ≡ xs ++ (text ++ rest)) × (list_all p xs ≡ true) ×
+      (f xs rest ≡ Some r)
   scanned_gives bytes r is =
       let xs : List ℕ = take_while p bytes in
-      let found = cut_gives (after_text text (drop (length (take_while p bytes)) bytes)) (f (take_while p bytes)) r is in
-      let splits = subst (SplitsBehind text (drop (length (take_while p bytes)) bytes)) found.1 (after_text_splits text (drop (length (take_while p bytes)) bytes)) in
-      (take_while p bytes, found.0, sym (take_and_rest (prefix_len p bytes) bytes) ∙ ap (λ ys. take_while p bytes ++ ys) splits, list_all-take_while p bytes, found.2)
+      let found = cut_gives (after_text text (drop (length (take_while p bytes)) bytes))
+      (f (take_while p bytes)) r is in
+      let splits = subst (SplitsBehind text (drop (length (take_while p bytes)) bytes)) found.1
+      (after_text_splits text (drop (length (take_while p bytes)) bytes)) in (
+        take_while p bytes,
+        found.0,
+        sym (take_and_rest (prefix_len p bytes) bytes) ∙ ap
+            (λ ys. take_while p bytes ++ ys) splits,
+        list_all-take_while p bytes,
+        found.2,
+      )

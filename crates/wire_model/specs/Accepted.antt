@@ -6,9 +6,11 @@ use Rattle.site_history.specs.History.{Item, accepted}
 use Rattle.wire_model.specs.Answers.{Answer, accepted_as, refused_by}
 use Rattle.wire_model.specs.Exchange.{Past, Told, entry_of}
 
--- what a request adds by its answer: its entry with the number and the reply that were told, or nothing
+-- what a request adds by its answer: its entry with the number and the reply that were told, or
+-- nothing
 abbrev pub accepted_by : Told → Answer → List (Item Entry Reply)
-accepted_by told (accepted_as number reply) = accepted (entry_of told.request told.moment number) reply ∷ []
+accepted_by told (accepted_as number reply) = accepted (entry_of told.request told.moment number)
+    reply ∷ []
 accepted_by told (refused_by refusal) = []
 
 -- what the accepted requests of a transcript add, in their order

@@ -8,7 +8,8 @@ use Rattle.wire_model.specs.declared.words.TheConstants.{HEAD_FRONT, HEAD_END, B
 use Rattle.wire_model.specs.Requests.{Request, is_digit, number_after, is_title_byte}
 use Rattle.wire_model.specs.Exchange.{Told}
 
--- What a request may ask: a title of 1 to 255 title bytes, a parent that may be a page's id, and a slug.
+-- What a request may ask: a title of 1 to 255 title bytes, a parent that may be a page's id, and a
+-- slug.
 pub record IsAsked (request : Request) : Type 0 where
   pub title_not_empty : 1 ≤ length request.title
   pub title_fits : length request.title ≤ MAX_TITLE
@@ -26,14 +27,16 @@ pub record WritesLength (digits : List ℕ) (n : ℕ) : Type 0 where
 -- the text of the body
 abbrev pub body_text : Request → List ℕ
 body_text request =
-    BODY_TITLE.now ++ request.title ++ BODY_PARENT.now ++ decimal request.parent ++ BODY_SLUG.now ++ request.slug
+    BODY_TITLE.now ++ request.title ++ BODY_PARENT.now ++ decimal request.parent ++ BODY_SLUG.now ++
+    request.slug
     ++ BODY_END.now
 
 -- the text of the request, whose head has these digits
 abbrev pub form_text : List ℕ → Request → List ℕ
 form_text digits request = HEAD_FRONT.now ++ digits ++ HEAD_END.now ++ body_text request
 
--- The text is a form of the request: what it asks is within its limits, and its head tells the length of its body.
+-- The text is a form of the request: what it asks is within its limits, and its head tells the
+-- length of its body.
 pub record IsForm (request : Request) (text : List ℕ) : Type 0 where
   pub asked : IsAsked request
   pub digits : List ℕ
@@ -44,4 +47,5 @@ pub record IsForm (request : Request) (text : List ℕ) : Type 0 where
 abbrev pub AreForms : List Told → List ℕ → Type 0
 AreForms [] text = text ≡ []
 AreForms (told ∷ more) text =
-    (first others : List ℕ) × IsForm told.request first × AreForms more others × (text ≡ first ++ others)
+    (first others : List ℕ) × IsForm told.request first × AreForms more others ×
+    (text ≡ first ++ others)

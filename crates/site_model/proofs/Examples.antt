@@ -1,6 +1,5 @@
 -- The definitions at worked values: a page made on a new site, and two creations that are refused.
-use Rattle.std.proofs.Common.{◌≡◌, ℕ, List, [], ◌∷◌, refl, codes, Option, Some, None, Result, Ok, Err}
-use Rattle.page_tree.specs.Tree.{Forest}
+use Rattle.std.proofs.Common.{◌≡◌, ℕ, List, [], refl, codes, Result, Ok, Err}
 use Rattle.step_path.specs.Path.{path_text}
 use Rattle.step_path.specs.Step.{step_text}
 use Rattle.site_types.specs.Content.{ContentValue}

@@ -1,5 +1,5 @@
 -- The command that creates a page: its refusals, in the order of their rules, and its effect.
-use Rattle.std.specs.Prelude.{ℕ, ◌+◌, true, false, List, [], ◌∷◌, ◌++◌, Option, Some, None, Result, Ok, Err, if◌then◌else◌}
+use Rattle.std.specs.Prelude.{ℕ, ◌+◌, false, List, [], ◌∷◌, ◌++◌, Option, Some, None, Result, Ok, Err, if◌then◌else◌}
 use Rattle.std.specs.Option.{option_map}
 use Rattle.page_tree.specs.Tree.{Forest, bare, grown, End, has_page, kids_of, kid_with_slug, graft}
 use Rattle.page_tree.specs.Walk.{path_of, url_of}

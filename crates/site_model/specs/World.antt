@@ -1,6 +1,6 @@
 -- The world that all commands speak of: a plain tree of pages, and beside it plain lists. The pages
 -- are Wagtail's.
-use Rattle.std.specs.Prelude.{ℕ, List, Option, ◌+◌, max}
+use Rattle.std.specs.Prelude.{ℕ, List, Option, max}
 use Rattle.page_tree.specs.Tree.{Forest}
 use Rattle.site_types.specs.Content.{ContentValue}
 use Rattle.site_types.specs.declared.body.Body.{Body}

@@ -1,11 +1,11 @@
 -- The definitions at worked values: a request, what becomes of its bytes, and the texts of three
 -- answers.
-use Rattle.std.proofs.Common.{◌≡◌, ℕ, false, true, List, [], ◌∷◌, ◌++◌, take, refl, codes}
-use Rattle.std.specs.Fmt.{decimal, digits}
+use Rattle.std.proofs.Common.{◌≡◌, ℕ, false, List, [], ◌∷◌, ◌++◌, take, refl, codes}
+use Rattle.std.specs.Fmt.{digits}
 use Rattle.site_types.specs.declared.refusal.Refusal.TheVariants.{SlugTaken}
 use Rattle.site_types.specs.declared.reply.Reply.TheVariants.{Page}
-use Rattle.wire_model.specs.Requests.{Request, Front, whole, part, refused, after_text, digits_then_end, announced_at, body_of, front}
-use Rattle.wire_model.specs.Answers.{Answer, accepted_as, refused_by, response, answer_text, not_built_text}
+use Rattle.wire_model.specs.Requests.{Request, whole, part, refused, after_text, digits_then_end, announced_at, body_of, front}
+use Rattle.wire_model.specs.Answers.{accepted_as, refused_by, response, answer_text, not_built_text}
 
 -- the end of a line
 abbrev crlf : List ℕ

@@ -1,9 +1,9 @@
 -- Final judgements with more bytes behind, and how long what is unfinished is.
-use Rattle.std.proofs.Common.{◌≡◌, ◌<◌, ℕ, Bool, true, false, List, [], ◌∷◌, ◌++◌, length, cond, refl, sym, ap, subst, ◌∙◌, arith}
+use Rattle.std.proofs.Common.{◌≡◌, ◌<◌, ℕ, Bool, true, false, List, [], ◌∷◌, ◌++◌, length, cond, refl, subst}
 use Rattle.site_model.specs.World.{World}
 use Rattle.wire_model.specs.declared.words.TheConstants.{MAX_REQUEST}
 use Rattle.wire_model.specs.Requests.{Request, Front, whole, part, refused, front}
-use Rattle.wire_model.specs.Exchange.{Judged, asks, nothing_left, unfinished, unbuilt, is_built, judge_front, judge}
+use Rattle.wire_model.specs.Exchange.{asks, unfinished, unbuilt, is_built, judge_front, judge}
 use Rattle.wire_model.proofs.RequestLemmas.{GrowsJudged, judge_grows}
 use Rattle.wire_model.proofs.LengthLemmas.{part_is_short}
 

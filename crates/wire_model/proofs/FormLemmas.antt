@@ -1,5 +1,5 @@
 -- The forms of requests are read, each as its request.
-use Rattle.std.proofs.Common.{◌≡◌, ◌≤◌, ◌<◌, ◌+◌, ◌-◌, ◌*◌, ℕ, suc, zero, Bool, true, false, List, [], ◌∷◌, ◌++◌, length, take, drop, Option, Some, None, cond, nat_eq, nat_le, nat_lt, ◌&&◌, refl, sym, ap, subst, ◌∙◌, append_assoc, length-append, arith, rules}
+use Rattle.std.proofs.Common.{◌≡◌, ◌≤◌, ◌+◌, ◌-◌, ◌*◌, ℕ, suc, zero, Bool, true, false, List, [], ◌∷◌, ◌++◌, length, take, drop, Some, None, cond, nat_lt, ◌&&◌, refl, sym, ap, ◌∙◌, append_assoc, length-append, arith}
 use Rattle.std.specs.Cmp.{first_so, second_so}
 use Rattle.std.specs.Fmt.{decimal}
 use Rattle.std.specs.List.{list_all}
@@ -7,8 +7,8 @@ use Rattle.std.proofs.lemmas.Bool.Decides.{nat_tests}
 use Rattle.std.proofs.lemmas.List.{append-nil, take_at, drop_at}
 use Rattle.site_types.specs.Slug.{is_slug_byte}
 use Rattle.wire_model.specs.declared.words.TheConstants.{HEAD_FRONT, HEAD_END, BODY_TITLE, BODY_PARENT, BODY_SLUG, BODY_END}
-use Rattle.wire_model.specs.Requests.{Request, Behind, behind, after_text, Head, head, part_of_head, no_head, ended_head, is_digit, digits_then_end, announced_at, head_behind, head_at, is_title_byte, cut, number_after, writes_page_id, is_title_length, request_of, ◌>>=◌, body_end, body_parent, body_title, body_of, Front, whole, part, refused, whole_or_refused, front_of, front}
-use Rattle.wire_model.specs.Form.{IsAsked, WritesLength, body_text, form_text, IsForm}
+use Rattle.wire_model.specs.Requests.{Request, after_text, head, no_head, ended_head, is_digit, digits_then_end, announced_at, head_behind, head_at, is_title_byte, cut, number_after, writes_page_id, is_title_length, request_of, ◌>>=◌, body_end, body_parent, body_title, body_of, whole, part, whole_or_refused, front_of, front}
+use Rattle.wire_model.specs.Form.{IsAsked, WritesLength, body_text, IsForm}
 use Rattle.wire_model.proofs.ScanLemmas.{after_text-append, scanned-append}
 use Rattle.wire_model.proofs.NumberLemmas.{number-decimal, digits-decimal, writes-decimal}
 

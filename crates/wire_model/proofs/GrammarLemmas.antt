@@ -1,5 +1,5 @@
 -- What is read is a form of a request, and so are the bytes that a transcript reads.
-use Rattle.std.proofs.Common.{◌≡◌, ◌≤◌, ◌<◌, ◌+◌, ◌-◌, ◌*◌, ℕ, suc, zero, Bool, true, false, List, [], ◌∷◌, ◌++◌, length, take, drop, Option, Some, None, cond, nat_le, nat_lt, ◌&&◌, refl, sym, ap, subst, ◌∙◌, append_assoc, length-append, arith, rules}
+use Rattle.std.proofs.Common.{◌≡◌, ◌≤◌, ◌<◌, ◌+◌, ◌-◌, ◌*◌, ℕ, suc, zero, Bool, true, false, List, [], ◌∷◌, ◌++◌, length, take, drop, Option, Some, None, cond, nat_le, nat_lt, ◌&&◌, refl, sym, ap, subst, ◌∙◌, append_assoc, length-append, arith}
 use Rattle.std.specs.Cmp.{first_so, second_so}
 use Rattle.std.specs.Fmt.{decimal}
 use Rattle.std.specs.List.{list_all}
@@ -9,7 +9,7 @@ use Rattle.site_types.specs.Slug.{is_slug_byte}
 use Rattle.site_model.specs.World.{World}
 use Rattle.wire_model.specs.declared.words.TheConstants.{HEAD_FRONT, HEAD_END, BODY_TITLE, BODY_PARENT, BODY_SLUG, BODY_END}
 use Rattle.wire_model.specs.Requests.{Request, Behind, behind, too_short, different, after_text, Head, head, part_of_head, no_head, ended_head, is_digit, digits_then_end, announced_at, head_behind, head_at, is_title_byte, number_after, writes_page_id, is_title_length, request_of, body_end, body_parent, body_title, body_of, Front, whole, part, refused, whole_or_refused, front_of, front}
-use Rattle.wire_model.specs.Exchange.{Past, Told, Judged, asks, nothing_left, unfinished, unbuilt, is_built, judge_front, judge, tally_of}
+use Rattle.wire_model.specs.Exchange.{Past, Told, asks, unbuilt, is_built, judge_front, judge, tally_of}
 use Rattle.wire_model.specs.Transcript.{Follows}
 use Rattle.wire_model.specs.Form.{IsAsked, WritesLength, body_text, form_text, IsForm, AreForms}
 use Rattle.wire_model.proofs.SplitLemmas.{SplitsBehind, after_text_splits}

@@ -1,8 +1,8 @@
 -- A request that is not whole is short: a head has three digits at most.
-use Rattle.std.proofs.Common.{◌≡◌, ◌≤◌, ◌<◌, ◌+◌, ◌-◌, ◌*◌, ℕ, suc, zero, Bool, true, false, List, [], ◌∷◌, ◌++◌, length, take, drop, Option, Some, None, cond, nat_eq, nat_lt, refl, sym, ap, ◌∙◌, arith, rules}
+use Rattle.std.proofs.Common.{◌≡◌, ◌≤◌, ◌<◌, ◌+◌, ◌-◌, ◌*◌, ℕ, suc, Bool, true, false, List, [], ◌∷◌, length, take, drop, Option, Some, None, cond, nat_eq, nat_lt, refl, arith}
 use Rattle.std.proofs.lemmas.Bool.Decides.{nat_tests}
 use Rattle.wire_model.specs.declared.words.TheConstants.{HEAD_FRONT, HEAD_END, MAX_REQUEST}
-use Rattle.wire_model.specs.Requests.{Request, Behind, behind, too_short, different, after_text, Head, head, part_of_head, no_head, ended_head, is_digit, digits_then_end, announced_at, head_behind, head_at, body_of, Front, whole, part, refused, whole_or_refused, front_of, front}
+use Rattle.wire_model.specs.Requests.{Request, Behind, behind, too_short, different, after_text, Head, head, part_of_head, no_head, ended_head, is_digit, digits_then_end, announced_at, head_behind, head_at, body_of, part, whole_or_refused, front_of, front}
 
 -- how long bytes are of which a text is the front, or which are a part of its front
 abbrev BoundsBehind : ℕ → ℕ → Behind → Type 0

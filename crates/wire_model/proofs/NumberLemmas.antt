@@ -1,12 +1,12 @@
 -- The digits of a parent: what decimal digits write, read back.
-use Rattle.std.proofs.Common.{◌≡◌, ◌≤◌, ◌<◌, ◌+◌, ◌-◌, ◌*◌, ◌^◌, ℕ, suc, zero, Bool, true, false, List, [], ◌∷◌, ◌++◌, length, get_or, nat_eq, nat_le, not, ◌&&◌, refl, sym, ap, subst, ◌∙◌, arith, rules}
+use Rattle.std.proofs.Common.{◌≡◌, ◌≤◌, ◌<◌, ℕ, Bool, true, false, List, [], ◌∷◌, length, get_or, nat_eq, nat_le, not, ◌&&◌, arith, rules}
 use Rattle.std.specs.Cmp.{first_so, second_so}
 use Rattle.std.specs.Fmt.{decimal}
 use Rattle.std.specs.List.{list_all}
 use Rattle.std.proofs.lemmas.Bool.Decides.{nat_tests}
-use Rattle.std.proofs.lemmas.Fmt.{digits_decimal, digits_value-decimal, decimal-digits_value, first_decimal, length-decimal-le, decimal_nonempty}
+use Rattle.std.proofs.lemmas.Fmt.{digits_decimal, digits_value-decimal, decimal-digits_value, first_decimal, length-decimal-le}
 use Rattle.std.proofs.lemmas.Str.Parse.{IsNumeralModel, numerals_by_fold}
-use Rattle.wire_model.specs.Requests.{is_digit, number_after, is_page_id, writes_page_id}
+use Rattle.wire_model.specs.Requests.{is_digit, number_after, writes_page_id}
 
 -- the digits and the number that they write are std's
 pub number_model : IsNumeralModel (λ ds. list_all is_digit ds ≡ true) (number_after 0)

@@ -1,20 +1,17 @@
 -- Laws of transcripts: what they leave, and that there is one.
-use Rattle.std.proofs.Common.{◌≡◌, ◌≤◌, ◌<◌, ◌+◌, ℕ, suc, zero, Bool, true, false, List, [], ◌∷◌, ◌++◌, length, Option, Some, None, Result, Ok, Err, refl, sym, ap, subst, ◌∙◌, inl, inr, arith, append_assoc, length-append, cond, nat_lt}
+use Rattle.std.proofs.Common.{◌≡◌, ◌≤◌, ◌+◌, ℕ, List, [], ◌∷◌, ◌++◌, length, Option, Some, None, Result, Ok, Err, refl, sym, ap, subst, ◌∙◌, inl, inr, arith, append_assoc, length-append}
 use Rattle.std.proofs.lemmas.Bool.{cases_lt}
 use Rattle.std.proofs.lemmas.List.{append-nil}
 use Rattle.std.specs.Prelude.{IsSome, IfSome}
 use Rattle.site_types.specs.declared.entry.Entry.{Entry}
 use Rattle.site_types.specs.declared.refusal.Refusal.{Refusal}
 use Rattle.site_types.specs.declared.reply.Reply.{Reply}
-use Rattle.site_history.specs.History.{Tally, History, Item, accepted, longer}
-use Rattle.site_history.specs.History as histories
+use Rattle.site_history.specs.History.{Item, accepted, longer}
 use Rattle.site_history.proofs.HistoryLemmas.{AllMayStand-push}
-use Rattle.site_model.specs.World.{World}
 use Rattle.site_model.specs.Step.{step}
 use Rattle.wire_model.specs.Requests.{Request}
-use Rattle.wire_model.specs.Answers.{Answer, accepted_as, refused_by}
 use Rattle.wire_model.specs.Accepted.{accepted_by, accepted_in, grown_by}
-use Rattle.wire_model.specs.Exchange.{Past, Told, IsLegal, number_of, tally_of, decide, entry_of, ExchangedBy, Exchange, Judged, asks, nothing_left, unfinished, unbuilt, judge}
+use Rattle.wire_model.specs.Exchange.{Past, Told, IsLegal, number_of, tally_of, decide, entry_of, ExchangedBy, asks, judge}
 use Rattle.wire_model.specs.Transcript.{Follows, HasMoments}
 use Rattle.wire_model.specs.Laws.{AsksNothing}
 

@@ -1,5 +1,5 @@
 -- What a transcript adds to a history: the entries of the requests that were accepted.
-use Rattle.std.specs.Prelude.{ℕ, List, [], ◌∷◌, ◌++◌}
+use Rattle.std.specs.Prelude.{List, [], ◌∷◌, ◌++◌}
 use Rattle.site_types.specs.declared.entry.Entry.{Entry}
 use Rattle.site_types.specs.declared.reply.Reply.{Reply}
 use Rattle.site_history.specs.History.{Item, accepted}

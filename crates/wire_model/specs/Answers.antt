@@ -1,6 +1,6 @@
 -- The answers to requests, and their texts: responses of HTTP/1.1 (RFC 9112) with bodies of JSON
 -- (RFC 8259).
-use Rattle.std.specs.Prelude.{ℕ, Bool, true, false, List, [], ◌∷◌, ◌++◌, length, Option, Some, None}
+use Rattle.std.specs.Prelude.{ℕ, Bool, true, false, List, [], ◌++◌, length, Option, Some, None}
 use Rattle.std.specs.Fmt.{decimal}
 use Rattle.site_types.specs.Refusal.{refusal_number, refusal_name, refusal_carried}
 use Rattle.site_types.specs.declared.refusal.Refusal.{Refusal}

@@ -2,7 +2,7 @@
 use Rattle.std.specs.Prelude.{◌≡◌, ℕ, ◌≤◌, ◌<◌, List, ◌++◌, length, Option, IsSome}
 use Rattle.site_model.specs.World.{World}
 use Rattle.wire_model.specs.declared.words.TheConstants.{MAX_REQUEST}
-use Rattle.wire_model.specs.Requests.{Request, Front, whole, part, front}
+use Rattle.wire_model.specs.Requests.{Request, whole, part, front}
 use Rattle.wire_model.specs.Exchange.{Past, Told, IsLegal, Judged, asks, nothing_left, unfinished, unbuilt, judge, tally_of}
 use Rattle.wire_model.specs.Transcript.{Follows, HasMoments}
 use Rattle.wire_model.specs.Form.{IsForm, AreForms}

@@ -1,10 +1,10 @@
 -- The requests in a list of bytes: the one form of head and body that is read, whole or in part, at
 -- the front of it.
-use Rattle.std.specs.Prelude.{ℕ, Bool, true, false, ◌==◌, ◌&&◌, nat_le, nat_lt, not, ◌+◌, ◌-◌, ◌*◌, List, [], ◌∷◌, length, take, drop, Option, Some, None, suc, zero, if◌then◌else◌}
+use Rattle.std.specs.Prelude.{ℕ, Bool, false, ◌==◌, ◌&&◌, nat_le, nat_lt, not, ◌+◌, ◌-◌, ◌*◌, List, [], ◌∷◌, length, take, drop, Option, Some, None, suc, zero, if◌then◌else◌}
 use Rattle.std.specs.List.{take_while}
 use Rattle.std.specs.Option.{option_and_then}
 use Rattle.site_types.specs.Slug.{is_slug_byte}
-use Rattle.wire_model.specs.declared.words.TheConstants.{HEAD_FRONT, HEAD_END, BODY_TITLE, BODY_PARENT, BODY_SLUG, BODY_END, MAX_TITLE}
+use Rattle.wire_model.specs.declared.words.TheConstants.{HEAD_FRONT, HEAD_END, BODY_TITLE, BODY_PARENT, BODY_SLUG, BODY_END}
 
 -- A request for a new page: its parent, its slug and its title.
 pub record Request : Type 0 where

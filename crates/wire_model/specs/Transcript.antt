@@ -1,10 +1,9 @@
 -- The transcript: requests at the front of the bytes, one after another, with their moments and
 -- answers, and its text.
 use Rattle.std.specs.Prelude.{◌≡◌, ℕ, ◌+◌, ◌==◌, List, [], ◌∷◌, ◌++◌, Option, IfSome}
-use Rattle.site_model.specs.World.{World}
 use Rattle.wire_model.specs.declared.words.TheConstants.{ANSWER_LIMIT}
-use Rattle.wire_model.specs.Answers.{Answer, answer_text}
-use Rattle.wire_model.specs.Exchange.{Past, Told, Exchange, Judged, asks, judge, tally_of}
+use Rattle.wire_model.specs.Answers.{answer_text}
+use Rattle.wire_model.specs.Exchange.{Past, Told, Exchange, asks, judge, tally_of}
 
 -- From a history on, these requests are the first in the bytes, in their order, with these moments
 -- and answers; then the history is `after`, and `rest` is left of the bytes.

@@ -1,5 +1,5 @@
-//! What stands on the wire: requests in a list of bytes, the answers to them and their texts. Definitions for proofs,
-//! and the constant texts that they and the code share.
+//! What stands on the wire: requests in a list of bytes, the answers to them and their texts.
+//! Definitions for proofs, laws about them, and the constant texts that they and the code share.
 #![tactic(auto)]
 
 pub mod laws;

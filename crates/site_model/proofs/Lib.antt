@@ -1,1 +1,2 @@
+pub mod CreateLemmas
 mod Examples

@@ -1,0 +1,11 @@
+pub mod PathOrder
+pub mod Leading
+pub mod AllLemmas
+pub mod InsertLemmas
+pub mod AddLemmas
+pub mod SeenLemmas
+pub mod KeptLemmas
+pub mod RootLemmas
+pub mod RangeLemmas
+pub mod WindowLemmas
+pub mod KidLemmas

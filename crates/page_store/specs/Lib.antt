@@ -1,1 +1,5 @@
 pub mod PageRows
+pub mod Pages
+pub mod Kept
+pub mod Search
+pub mod KidWalk

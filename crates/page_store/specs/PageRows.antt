@@ -1,12 +1,12 @@
 -- What the store of rows is seen as: the rows of a tree in path order, as django-treebeard keeps them, with URLs.
-use Rattle.std.specs.Prelude.{◌≡◌, ℕ, Bool, true, false, Option, Some, None, IsSome, ◌-◌, ◌+◌, ◌<◌, ◌≤◌, List, [], ◌∷◌, ◌++◌}
-use Rattle.std.specs.Prelude.{length, take, drop, find, map, slice_get, All}
+use Rattle.std.specs.Prelude.{◌≡◌, ℕ, Option, Some, None, IsSome, ◌-◌, ◌+◌, ◌≤◌, List, [], ◌∷◌}
+use Rattle.std.specs.Prelude.{length, take, drop, find, slice_get}
 use Rattle.std.specs.Option.{option_map, IfSome}
 use Rattle.std.specs.List.{AllByRecursion}
 use Rattle.std.specs.Str.{bytes_eq}
 use Rattle.page_tree.specs.Walk.{SLASH}
-use Rattle.page_tree.specs.Rows.{Row, comes_before, row_with, kid_named, kids_in}
-use Rattle.step_path.specs.Path.{path_text, steps_of, IsPath, IsPathText, BeginsWith}
+use Rattle.page_tree.specs.Rows.{Row, row_with, kid_named}
+use Rattle.step_path.specs.Path.{path_text, steps_of, IsPathText, BeginsWith}
 use Rattle.site_types.specs.RootBody.{root_body}
 use Rattle.site_types.specs.declared.body.Body.{Body}
 use Rattle.site_types.specs.declared.page_row.PageRow.{PageRow}

@@ -1,6 +1,17 @@
 //! The rows of all pages in path order, after django-treebeard's `MP_Node` table.
 #![tactic(auto)]
 
+mod insert;
+mod kids;
+mod look_up;
+mod range;
+mod root;
 mod rows;
+mod search;
+mod stored;
 
-pub use rows::{Kids, Rows};
+pub use kids::Kids;
+pub use rows::Rows;
+
+#[cfg(test)]
+mod tests;

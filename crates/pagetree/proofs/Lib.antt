@@ -1,2 +1,5 @@
 pub mod FormLemmas
 pub mod HeldLemmas
+pub mod SiteLemmas
+pub mod CreationLemmas
+pub mod CommitLemmas

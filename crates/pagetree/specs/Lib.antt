@@ -1,3 +1,5 @@
 pub mod Reading
 pub mod Answering
 pub mod Holding
+pub mod Standing
+pub mod Ending

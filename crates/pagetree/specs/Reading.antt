@@ -11,7 +11,7 @@ use Rattle.pagetree.specs.declared.form.Front.{Front}
 use Rattle.pagetree.specs.declared.form.Front.TheVariants as fronts
 use Rattle.pagetree.specs.declared.form.Kind.{Kind}
 use Rattle.pagetree.specs.declared.form.Kind.TheVariants as kinds
-use Rattle.pagetree.specs.declared.form.Request.{Request}
+use Rattle.pagetree.specs.declared.request.Request.{Request}
 
 -- whether a byte is of the kind
 abbrev pub belongs : Kind → ℕ → Bool

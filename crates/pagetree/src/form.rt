@@ -3,23 +3,15 @@ ghost use Rattle.std.specs.Prelude.{◌≡◌, ◌+◌, ◌<◌, ◌≤◌, ℕ,
 ghost use Rattle.std.specs.List.{take_while, list_all};
 ghost use Rattle.std.specs.Option.{option_map};
 ghost use Rattle.site_types.specs.Slug.{is_slug_byte};
-ghost use Rattle.wire_model.specs.Requests.{is_digit, number_after, writes_page_id, after_text, digits_then_end, announced_at, head_at, ended_head, body_of, body_title, body_parent, body_end, request_of, front, cut};
+ghost use Rattle.wire_model.specs.Requests.{is_digit, is_title_byte, number_after, writes_page_id, after_text, digits_then_end, announced_at, head_at, ended_head, body_of, body_title, body_parent, body_end, request_of, front, cut};
 ghost use Rattle.pagetree.specs.Reading.{belongs, asked, ReadsAfter, ReadsHead, ReadsFront};
 
+use crate::request::Request;
 use site_types::{PageId, Slug};
 use wire_model::{BODY_END, BODY_PARENT, BODY_SLUG, BODY_TITLE, HEAD_END, HEAD_FRONT, MAX_TITLE};
 
-/// A request for a new page, as it stands in the bytes.
-pub struct Request<'a> {
-    /// The page below which the new one is to stand.
-    pub parent: PageId,
-    /// The new page's slug.
-    pub slug: Slug,
-    /// Its title: 1 to 255 bytes from blank to `~`.
-    pub title: &'a [u8],
-}
-
 /// What stands at the front of bytes.
+#[derive(Drop)]
 pub enum Front<'a> {
     /// A whole request, and how many bytes it takes.
     Whole(Request<'a>, usize),
@@ -224,7 +216,8 @@ fn make_request<'a>(
     slug: &[u8],
     rest: &[u8],
 ) -> Option<Request<'a>>
-    requires { IsTrue (list_all is_slug_byte slug.now) }
+    requires slug { IsTrue (list_all is_slug_byte slug.now) }
+    requires title { IsTrue (list_all is_title_byte title.now) }
     ensures { option_map asked result ≡ request_of title.now digits.now slug.now rest.now }
 {
     if !rest.is_empty() {

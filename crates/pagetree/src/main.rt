@@ -4,5 +4,8 @@
 mod answer;
 mod form;
 mod held;
+mod request;
+mod site;
+mod status;
 
 fn main() {}

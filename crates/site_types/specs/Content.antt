@@ -1,5 +1,6 @@
 -- What a content is, its form in bytes and its limits.
-use Rattle.std.specs.Prelude.{ℕ, ◌≤◌, List, [], ◌∷◌, ◌++◌, length, All}
+use Rattle.std.specs.Prelude.{ℕ, ◌-◌, ◌≤◌, Option, List, [], ◌∷◌, ◌++◌, length, All}
+use Rattle.std.specs.Option.{SomeIff}
 use Rattle.std.specs.Int.{w16, w32, to_be_bytes}
 use Rattle.site_types.specs.declared.block.Block.{Block}
 use Rattle.site_types.specs.declared.block.Block.TheVariants.{Heading, Paragraph, Items, Page}
@@ -39,7 +40,8 @@ blocks_form (block ∷ blocks) = block_form block ++ blocks_form blocks
 -- two bytes, and the blocks
 abbrev pub content_form : ContentValue → List ℕ
 content_form content =
-    length content.title ∷ content.title ++ to_be_bytes w16 (length content.blocks) ++ blocks_form content.blocks
+    let count = to_be_bytes w16 (length content.blocks) in
+    length content.title ∷ content.title ++ count ++ blocks_form content.blocks
 
 -- a list block has 1 to 1,000 texts; the other blocks have no limit of their own
 abbrev pub FitsBlock : Block → Type 0
@@ -54,3 +56,7 @@ pub record FitsLimits (content : ContentValue) : Type 0 where
   pub blocks_fit : length content.blocks ≤ MAX_BLOCKS
   pub lists_fit : All FitsBlock content.blocks
   pub form_fits : length (content_form content) ≤ MAX_CONTENT_BYTES
+
+-- what is left of some room behind a form: none exactly where the form is longer than the room
+abbrev pub LeavesRoom : Option ℕ → ℕ → List ℕ → Type 0
+LeavesRoom left room form = SomeIff left (length form ≤ room) (room - length form)

@@ -109,7 +109,8 @@ impl Content {
 
 /// The length of the byte form, or `None` exactly where a limit is broken.
 fn measured(title: &Text, blocks: &Blocks) -> Option<u32>
-    ensures { SomeIff result (FitsLimits (content_of title.now blocks.now)) (length (content_form (content_of title.now blocks.now))) }
+    ensures { let content = content_of title.now blocks.now in
+        SomeIff result (FitsLimits content) (length (content_form content)) }
 {
     if title.is_empty() || title.len() > MAX_TITLE_BYTES || blocks.len() > MAX_BLOCKS {
         return None;

@@ -2,9 +2,9 @@
 //!
 //! Each function is given the room in bytes that is left, and gives what remains of it behind the
 //! form of its argument, or `None` exactly where the form does not fit.
-ghost use Rattle.std.specs.Prelude.{◌≡◌, ◌-◌, ◌≤◌, ◌↔◌, length, All, IsTrue};
-ghost use Rattle.std.specs.Option.{SomeIff};
-ghost use Rattle.site_types.specs.Content.{text_form, texts_form, block_form, blocks_form, FitsBlock};
+ghost use Rattle.std.specs.Prelude.{◌↔◌, All, IsTrue};
+ghost use Rattle.site_types.specs.Content.{text_form, texts_form, block_form, blocks_form};
+ghost use Rattle.site_types.specs.Content.{FitsBlock, LeavesRoom};
 
 use crate::{Block, MAX_LIST_TEXTS};
 use site_ids::Text;
@@ -28,7 +28,7 @@ fn list_fits(block: &Block) -> bool
 
 /// The room behind the forms of these blocks.
 pub(crate) fn room_after_blocks(room: u32, blocks: &[Block]) -> Option<u32>
-    ensures { SomeIff result (length (blocks_form blocks.now) ≤ room) (room - length (blocks_form blocks.now)) }
+    ensures { LeavesRoom result room (blocks_form blocks.now) }
 {
     let mut left = room;
     for block in blocks {
@@ -39,7 +39,7 @@ pub(crate) fn room_after_blocks(room: u32, blocks: &[Block]) -> Option<u32>
 
 /// The room behind the form of this block.
 fn room_after_block(room: u32, block: &Block) -> Option<u32>
-    ensures { SomeIff result (length (block_form block.now) ≤ room) (room - length (block_form block.now)) }
+    ensures { LeavesRoom result room (block_form block.now) }
 {
     match block {
         Block::Heading(text) => room_after_text(room.checked_sub(1)?, text),
@@ -51,7 +51,7 @@ fn room_after_block(room: u32, block: &Block) -> Option<u32>
 
 /// The room behind the forms of these texts.
 fn room_after_texts(room: u32, texts: &[Text]) -> Option<u32>
-    ensures { SomeIff result (length (texts_form texts.now) ≤ room) (room - length (texts_form texts.now)) }
+    ensures { LeavesRoom result room (texts_form texts.now) }
 {
     let mut left = room;
     for text in texts {
@@ -62,7 +62,7 @@ fn room_after_texts(room: u32, texts: &[Text]) -> Option<u32>
 
 /// The room behind the form of this text.
 fn room_after_text(room: u32, text: &Text) -> Option<u32>
-    ensures { SomeIff result (length (text_form text.now) ≤ room) (room - length (text_form text.now)) }
+    ensures { LeavesRoom result room (text_form text.now) }
 {
     let left = room.checked_sub(4)?;
     if text.len() > left as usize {

@@ -5,4 +5,5 @@ use Rattle.site_types.proofs.measure.room_after_blocks.Given as goal
 -- the room that is left is what the forms so far have not taken
 abbrev pub invariant-loop-block : goal.invariant-loop-block
 invariant-loop-block l =
-    length (blocks_form l.blocks) + l.left ≡ l.fn.room + length (blocks_form (drop l.block-index l.blocks))
+    let rest = blocks_form (drop l.block-index l.blocks) in
+    length (blocks_form l.blocks) + l.left ≡ l.fn.room + length rest

@@ -14,6 +14,7 @@ use Rattle.wire_model.specs.Accepted.{accepted_by, accepted_in, grown_by}
 use Rattle.wire_model.specs.Exchange.{Past, Told, IsLegal, number_of, tally_of, decide, entry_of, ExchangedBy, asks, judge}
 use Rattle.wire_model.specs.Transcript.{Follows, HasMoments}
 use Rattle.wire_model.specs.Laws.{AsksNothing}
+use Rattle.wire_model.proofs.FinalLemmas.{asks_stays}
 
 -- an exchange from a legal history on leaves a legal one
 exchange_keeps_legal : (past after : Past) (told : Told) (r : Result Reply Refusal) →
@@ -33,6 +34,14 @@ transcript_keeps_legal past after bytes rest (x ∷ told) legal h =
     transcript_keeps_legal h.1 after h.0 rest told
     (exchange_keeps_legal past h.1 x (decide past (entry_of x.request x.moment)) refl legal h.3)
     h.4
+
+-- a transcript stays one with more bytes behind
+pub transcript_stays : (past after : Past) (bytes rest more : List ℕ) (told : List Told) →
+    Follows past bytes told after rest → Follows past (bytes ++ more) told after (rest ++ more)
+transcript_stays past after bytes rest more [] h = (h.0, ap (λ (bs : List ℕ). bs ++ more) h.1)
+transcript_stays past after bytes rest more (x ∷ told) h =
+    let asked = asks_stays (tally_of past).world bytes more x.request h.0 h.2 in
+    (h.0 ++ more, h.1, asked, h.3, transcript_stays h.1 after h.0 rest more told h.4)
 
 -- an exchange adds what its answer says
 exchange_adds : (past after : Past) (told : Told) (r : Result Reply Refusal) →

@@ -19,6 +19,12 @@ FinalStays =
     (rest ++ more))
     × (judge world bytes ≡ unbuilt → judge world (bytes ++ more) ≡ unbuilt)
 
+-- A transcript stays one with more bytes behind, which come behind what was left.
+abbrev pub TranscriptStays : Type 0
+TranscriptStays =
+    (past after : Past) (bytes rest more : List ℕ) (told : List Told) →
+    Follows past bytes told after rest → Follows past (bytes ++ more) told after (rest ++ more)
+
 -- what is only a part of a request is shorter than the longest request, and it is counted whole
 abbrev pub PartIsShort : Type 0
 PartIsShort =

@@ -1,10 +1,15 @@
 //! Laws of requests, judgements and transcripts. Each is a function that does nothing: its contract
 //! is the law.
-ghost use Rattle.wire_model.specs.Laws.{FinalStays, PartIsShort, TranscriptKeepsLegal, HistoryGrowsAsTold, FormsAreRead, FormsAloneAreRead, CutFormIsPart, TranscriptReadsForms, LongerBeginsWithShorter, OneTranscript, NothingAskedIsLast};
+ghost use Rattle.wire_model.specs.Laws.{FinalStays, TranscriptStays, PartIsShort, TranscriptKeepsLegal, HistoryGrowsAsTold, FormsAreRead, FormsAloneAreRead, CutFormIsPart, TranscriptReadsForms, LongerBeginsWithShorter, OneTranscript, NothingAskedIsLast};
 
 /// A final judgement stays with more bytes behind.
 pub fn final_stays()
     ensures { FinalStays }
+{}
+
+/// A transcript stays one with more bytes behind.
+pub fn transcript_stays()
+    ensures { TranscriptStays }
 {}
 
 /// What is only a part of a request is shorter than `MAX_REQUEST`.

@@ -4,6 +4,13 @@ use Rattle.std.proofs.Common.{◌≡◌, ℕ, false, List, [], ◌∷◌, ◌++�
 use Rattle.std.specs.Fmt.{digits}
 use Rattle.site_types.specs.declared.refusal.Refusal.TheVariants.{SlugTaken}
 use Rattle.site_types.specs.declared.reply.Reply.TheVariants.{Page}
+use Rattle.site_model.specs.Start.{new_world}
+use Rattle.site_model.specs.Step.{step, tree_step}
+use Rattle.step_path.specs.Path.{path_text}
+use Rattle.step_path.specs.Step.{step_text}
+use Rattle.wire_model.specs.Accepted.{accepted_in, grown_by}
+use Rattle.wire_model.specs.Exchange.{Past, Told}
+use Rattle.wire_model.specs.Transcript.{Follows}
 use Rattle.wire_model.specs.Requests.{Request, whole, part, refused, after_text, digits_then_end, announced_at, body_of, front}
 use Rattle.wire_model.specs.Answers.{accepted_as, refused_by, response, answer_text, not_built_text}
 
@@ -62,3 +69,46 @@ not_built_answer : not_built_text ≡ line (codes "HTTP/1.1 501 Not Implemented"
     (codes "Connection: close") ++ crlf ++ codes "{\"error\":\"NotBuilt\"}"
 unfolding not_built_text response digits
 not_built_answer = refl
+
+-- a new site, before its first entry
+abbrev new_site : Past
+new_site = record { start = record { world = new_world []; number = 0 }; items = [] }
+
+-- the request with the moment at which it was read, and its answer
+abbrev home_told : Told
+home_told = record {
+  request = home;
+  moment = 100;
+  answer = accepted_as 1 (Page 2 (codes "00010001") (codes "/home/"));
+}
+
+-- On a new site the request is the transcript of its bytes; the history has its entry then.
+home_follows : Follows new_site home_bytes (home_told ∷ [])
+    (grown_by new_site (accepted_in (home_told ∷ []))) []
+unfolding front after_text digits_then_end announced_at body_of step tree_step path_text step_text
+home_follows = (
+  [],
+  grown_by new_site (accepted_in (home_told ∷ [])),
+  refl,
+  (refl, refl),
+  (refl, refl),
+)
+
+-- The same request again is refused by the page that has the slug.
+home_follows_twice : Follows new_site (home_bytes ++ home_bytes)
+    (home_told ∷ (record home_told { answer = refused_by (SlugTaken 2) }) ∷ [])
+    (grown_by new_site (accepted_in (home_told ∷ []))) []
+unfolding front after_text digits_then_end announced_at body_of step tree_step path_text step_text
+home_follows_twice = (
+  home_bytes,
+  grown_by new_site (accepted_in (home_told ∷ [])),
+  refl,
+  (refl, refl),
+  (
+    [],
+    grown_by new_site (accepted_in (home_told ∷ [])),
+    refl,
+    (refl, refl),
+    (refl, refl),
+  ),
+)

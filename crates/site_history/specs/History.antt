@@ -1,4 +1,5 @@
--- Histories: what a server has accepted, in order, over any kind of world and entry. A history grows at its end alone.
+-- Histories: what a server has accepted, in order, over any kind of world and entry. A history
+-- grows at its end alone.
 use Rattle.std.specs.Prelude.{ℕ, ◌≡◌, ◌+◌, List, [], ◌∷◌, ◌++◌, Result, Ok, Err}
 
 -- Something that stands in a history: an entry that was accepted, with its reply.
@@ -16,18 +17,22 @@ pub record History (World Entry Reply : Type 0) : Type 0 where
   pub items : List (Item Entry Reply)
 
 -- the history with one more item at its end
-abbrev pub longer : {World Entry Reply : Type 0} → History World Entry Reply → Item Entry Reply → History World Entry Reply
+abbrev pub longer : {World Entry Reply : Type 0} → History World Entry Reply → Item Entry Reply →
+    History World Entry Reply
 longer history item = record { start = history.start; items = history.items ++ item ∷ [] }
 
 -- one history begins another
-abbrev pub IsBefore : {World Entry Reply : Type 0} → History World Entry Reply → History World Entry Reply → Type 0
+abbrev pub IsBefore : {World Entry Reply : Type 0} → History World Entry Reply →
+    History World Entry Reply → Type 0
 IsBefore {World} {Entry} {Reply} early late =
-    (late.start ≡ early.start) × ((more : List (Item Entry Reply)) × (late.items ≡ early.items ++ more))
+    (late.start ≡ early.start) × ((more : List (Item Entry Reply)) ×
+    (late.items ≡ early.items ++ more))
 
--- The step of the world says what an entry does: a new world and a reply, or a refusal. Each entry has a number.
-module _ {World Entry Reply Refusal : Type 0} (step : World → Entry → Result (World × Reply) Refusal)
+-- The step of the world says what an entry does: a new world and a reply, or a refusal. Each entry
+-- has a number.
+module _ {World Entry Reply Refusal : Type 0}
+    (step : World → Entry → Result (World × Reply) Refusal)
     (number_of : Entry → ℕ) where
-
   -- the world after a step, which a refused entry leaves as it was
   abbrev pub world_after : World → Result (World × Reply) Refusal → World
   world_after world (Ok done) = done.0

@@ -1,5 +1,5 @@
 -- The command that creates a page: its refusals, in the order of their rules, and its effect.
-use Rattle.std.specs.Prelude.{ℕ, ◌+◌, true, false, List, [], ◌∷◌, ◌++◌, Option, Some, None, Result, Ok, Err, if◌then◌else◌}
+use Rattle.std.specs.Prelude.{ℕ, ◌+◌, false, List, [], ◌∷◌, ◌++◌, Option, Some, None, Result, Ok, Err, if◌then◌else◌}
 use Rattle.std.specs.Option.{option_map}
 use Rattle.page_tree.specs.Tree.{Forest, bare, grown, End, has_page, kids_of, kid_with_slug, graft}
 use Rattle.page_tree.specs.Walk.{path_of, url_of}
@@ -30,7 +30,8 @@ or_then None later = later
 abbrev pub create_refusal : TreePart → ℕ → List ℕ → Option Refusal
 create_refusal part parent slug = or_then (no_page part parent) (slug_taken part parent slug)
 
--- What is kept of a page that was just made: it is its maker's, not live, and shows its one revision, the latest.
+-- What is kept of a page that was just made: it is its maker's, not live, and shows its one
+-- revision, the latest.
 abbrev pub fresh_body : ℕ → ℕ → Body
 fresh_body owner revision =
     record {
@@ -51,11 +52,21 @@ fresh_body owner revision =
 -- a revision without moments to publish it or to end it
 abbrev pub plain_revision : ℕ → ℕ → ℕ → ℕ → ContentValue → Revision
 plain_revision id page by made content =
-    record { id = id; page = page; by = by; made = made; content = content; go_live = None; expire = None }
+    record {
+      id = id;
+      page = page;
+      by = by;
+      made = made;
+      content = content;
+      go_live = None;
+      expire =
+          None;
+    }
 
 -- the new page, standing alone
 abbrev pub new_page : TreePart → ℕ → List ℕ → Forest Body
-new_page part caller slug = grown part.next_page 1 slug (fresh_body caller part.next_revision) bare bare
+new_page part caller slug = grown part.next_page 1 slug (fresh_body caller part.next_revision) bare
+    bare
 
 -- a page's reply: its id, the text of its path, and its URL
 abbrev pub page_reply : ℕ → Forest Body → Reply
@@ -69,16 +80,19 @@ created part now caller parent slug content =
       next_page = part.next_page + 1;
       next_revision = part.next_revision + 1;
       tree = graft parent End (new_page part caller slug) part.tree;
-      revisions = part.revisions ++ plain_revision part.next_revision part.next_page caller (time_at part now) content ∷ [];
+      revisions = part.revisions ++ plain_revision part.next_revision part.next_page caller
+          (time_at part now) content ∷ [];
     }
 
 -- what becomes of a creation that no rule refuses, or the refusal
-abbrev pub unless_refused : Option Refusal → TreePart → Reply → Result (TreePart × Effect Reply) Refusal
+abbrev pub unless_refused : Option Refusal → TreePart → Reply →
+    Result (TreePart × Effect Reply) Refusal
 unless_refused (Some refusal) part reply = Err refusal
 unless_refused None part reply = Ok (part, record { reply = reply; opened = None; shut = [] })
 
 -- a creation by a caller at a moment
-abbrev pub create : TreePart → ℕ → ℕ → ℕ → List ℕ → ContentValue → Result (TreePart × Effect Reply) Refusal
+abbrev pub create : TreePart → ℕ → ℕ → ℕ → List ℕ → ContentValue →
+    Result (TreePart × Effect Reply) Refusal
 create part now caller parent slug content =
     let after = created part now caller parent slug content in
     unless_refused (create_refusal part parent slug) after (page_reply part.next_page after.tree)

@@ -2,3 +2,4 @@ pub mod World
 pub mod Start
 pub mod Create
 pub mod Step
+pub mod Laws

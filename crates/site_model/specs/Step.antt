@@ -1,6 +1,6 @@
--- The step: what one entry does to the world. A step of the tree part says the reply, the desk that is opened and the
--- desks that end; these are then applied to the texts of the desks.
-use Rattle.std.specs.Prelude.{ℕ, Bool, not, ◌==◌, List, [], ◌∷◌, ◌++◌, filter, Option, Some, None, Result, Ok, Err}
+-- The step: what one entry does to the world. A step of the tree part says the reply, the desk that
+-- is opened and the desks that end; these are then applied to the texts of the desks.
+use Rattle.std.specs.Prelude.{ℕ, not, ◌==◌, List, [], ◌∷◌, ◌++◌, filter, Option, Some, None, Result, Ok, Err}
 use Rattle.std.specs.List.{list_any}
 use Rattle.site_types.specs.declared.command.Command.{Command}
 use Rattle.site_types.specs.declared.command.Command.TheVariants.{Create}
@@ -11,7 +11,8 @@ use Rattle.site_types.specs.declared.reply.Reply.{Reply}
 use Rattle.site_model.specs.World.{World, TreePart, DeskText, Effect}
 use Rattle.site_model.specs.Create.{create}
 
--- The step of the tree part. A command whose group is not built has no effect: no request can send one.
+-- The step of the tree part. A command whose group is not built has no effect: no request can send
+-- one.
 unfoldable pub tree_step : TreePart → ℕ → ℕ → Command → Result (TreePart × Effect Reply) Refusal
 tree_step part now caller (Create parent slug content) = create part now caller parent slug content
 tree_step part now caller _ = Err NothingNew
@@ -30,10 +31,15 @@ abbrev pub texts_after : Effect Reply → List DeskText → List DeskText
 texts_after effect texts = without_desks effect.shut (with_desk effect.opened texts)
 
 -- a step of the tree part, with what it does to the texts
-abbrev pub with_texts : List DeskText → Result (TreePart × Effect Reply) Refusal → Result (World × Reply) Refusal
+abbrev pub with_texts : List DeskText → Result (TreePart × Effect Reply) Refusal →
+    Result (World × Reply) Refusal
 with_texts texts (Err refusal) = Err refusal
-with_texts texts (Ok done) = Ok (record { part = done.0; texts = texts_after done.1 texts }, done.1.reply)
+with_texts texts (Ok done) = Ok (
+  record { part = done.0; texts = texts_after done.1 texts },
+  done.1.reply,
+)
 
 -- the step of the world
 unfoldable pub step : World → Entry → Result (World × Reply) Refusal
-step world entry = with_texts world.texts (tree_step world.part entry.moment entry.caller entry.command)
+step world entry = with_texts world.texts
+    (tree_step world.part entry.moment entry.caller entry.command)

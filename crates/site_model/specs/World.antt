@@ -1,5 +1,6 @@
--- The world that all commands speak of: a plain tree of pages, and beside it plain lists. The pages are Wagtail's.
-use Rattle.std.specs.Prelude.{ℕ, List, Option, ◌+◌, max}
+-- The world that all commands speak of: a plain tree of pages, and beside it plain lists. The pages
+-- are Wagtail's.
+use Rattle.std.specs.Prelude.{ℕ, List, Option, max}
 use Rattle.page_tree.specs.Tree.{Forest}
 use Rattle.site_types.specs.Content.{ContentValue}
 use Rattle.site_types.specs.declared.body.Body.{Body}
@@ -18,8 +19,9 @@ pub record DeskText : Type 0 where
   pub page : ℕ
   pub text : ContentValue
 
--- All of the world but the texts of the open desks. Users, groups, tasks and workflows are numbered from 1 on;
--- the lists of users, tasks and workflows are in that order. A group is nothing but its number.
+-- All of the world but the texts of the open desks. Users, groups, tasks and workflows are numbered
+-- from 1 on; the lists of users, tasks and workflows are in that order. A group is nothing but its
+-- number.
 pub record TreePart : Type 0 where
   pub time : ℕ
   pub next_page : ℕ
@@ -42,8 +44,8 @@ pub record World : Type 0 where
   pub part : TreePart
   pub texts : List DeskText
 
--- What an accepted entry does beside changing the tree part: its reply, the desk that it opens, and the pages whose
--- desks end.
+-- What an accepted entry does beside changing the tree part: its reply, the desk that it opens, and
+-- the pages whose desks end.
 pub record Effect (Reply : Type 0) : Type 0 where
   pub reply : Reply
   pub opened : Option DeskText

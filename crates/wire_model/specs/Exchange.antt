@@ -65,17 +65,18 @@ ExchangedBy past told after (Ok reply) =
     × (after ≡ longer past (accepted (entry_of told.request told.moment number) reply))
 ExchangedBy past told after (Err refusal) = (told.answer ≡ refused_by refusal) × (after ≡ past)
 
--- After a history a request may get this answer, and this is the history then: it has one entry more where the
--- request was accepted.
+-- After a history a request may get this answer, and this is the history then: it has one entry
+-- more where the request was accepted.
 abbrev pub Exchange : Past → Told → Past → Type 0
-Exchange past told after = ExchangedBy past told after (decide past (entry_of told.request told.moment))
+Exchange past told after = ExchangedBy past told after
+    (decide past (entry_of told.request told.moment))
 
 -- a page can be made below the root alone, so far; below what is no page it is refused
 abbrev pub is_built : World → Request → Bool
 is_built world request = (request.parent == 1) || not (has_page request.parent world.part.tree)
 
--- How the bytes that are left are judged: a request and what follows it; nothing; less than a request, of so many
--- bytes; or something that is not built.
+-- How the bytes that are left are judged: a request and what follows it; nothing; less than a
+-- request, of so many bytes; or something that is not built.
 pub data Judged : Type 0 where
   asks : (request : Request) (rest : List ℕ) → Judged
   nothing_left : Judged
@@ -84,7 +85,8 @@ pub data Judged : Type 0 where
 
 -- the judgement by what stands at the front
 abbrev pub judge_front : World → ℕ → Front → Judged
-judge_front world count (whole request rest) = if is_built world request then asks request rest else unbuilt
+judge_front world count (whole request rest) = if is_built world request then asks request rest else
+    unbuilt
 judge_front world count part = unfinished count
 judge_front world count refused = unbuilt
 

@@ -2,3 +2,6 @@ pub mod Requests
 pub mod Answers
 pub mod Exchange
 pub mod Transcript
+pub mod Form
+pub mod Accepted
+pub mod Laws

@@ -1,9 +1,10 @@
--- The requests in a list of bytes: the one form of head and body that is read, whole or in part, at the front of it.
-use Rattle.std.specs.Prelude.{ℕ, Bool, true, false, ◌==◌, ◌&&◌, nat_le, nat_lt, not, ◌+◌, ◌-◌, ◌*◌, List, [], ◌∷◌, length, take, drop, Option, Some, None, suc, zero, if◌then◌else◌}
+-- The requests in a list of bytes: the one form of head and body that is read, whole or in part, at
+-- the front of it.
+use Rattle.std.specs.Prelude.{ℕ, Bool, false, ◌==◌, ◌&&◌, nat_le, nat_lt, not, ◌+◌, ◌-◌, ◌*◌, List, [], ◌∷◌, length, take, drop, Option, Some, None, suc, zero, if◌then◌else◌}
 use Rattle.std.specs.List.{take_while}
 use Rattle.std.specs.Option.{option_and_then}
 use Rattle.site_types.specs.Slug.{is_slug_byte}
-use Rattle.wire_model.specs.declared.words.TheConstants.{HEAD_FRONT, HEAD_END, BODY_TITLE, BODY_PARENT, BODY_SLUG, BODY_END, MAX_TITLE}
+use Rattle.wire_model.specs.declared.words.TheConstants.{HEAD_FRONT, HEAD_END, BODY_TITLE, BODY_PARENT, BODY_SLUG, BODY_END}
 
 -- A request for a new page: its parent, its slug and its title.
 pub record Request : Type 0 where
@@ -11,8 +12,8 @@ pub record Request : Type 0 where
   pub slug : List ℕ
   pub title : List ℕ
 
--- What a text at the front of bytes leaves: the bytes behind it; or the bytes are a proper part of its front; or they
--- are something else.
+-- What a text at the front of bytes leaves: the bytes behind it; or the bytes are a proper part of
+-- its front; or they are something else.
 pub data Behind : Type 0 where
   behind : (rest : List ℕ) → Behind
   too_short : Behind
@@ -24,7 +25,8 @@ after_text [] bytes = behind bytes
 after_text (c ∷ text) [] = too_short
 after_text (c ∷ text) (b ∷ bytes) = if b == c then after_text text bytes else different
 
--- What stands at the front: a head that announces so many bytes, and what follows it; a part of a head; or neither.
+-- What stands at the front: a head that announces so many bytes, and what follows it; a part of a
+-- head; or neither.
 pub data Head : Type 0 where
   head : (announced : ℕ) (rest : List ℕ) → Head
   part_of_head : Head
@@ -127,8 +129,8 @@ body_title bytes =
 unfoldable pub body_of : List ℕ → Option Request
 body_of bytes = cut (after_text BODY_TITLE.now bytes) >>= body_title
 
--- What stands at the front of bytes: a whole request and what follows it; less than one, with which it may begin; or
--- something that no request begins with.
+-- What stands at the front of bytes: a whole request and what follows it; less than one, with which
+-- it may begin; or something that no request begins with.
 pub data Front : Type 0 where
   whole : (request : Request) (rest : List ℕ) → Front
   part : Front

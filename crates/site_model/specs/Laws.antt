@@ -1,0 +1,42 @@
+-- The law of creations: what a creation does not name stays as it was. It is proved in src/laws.rt.
+use Rattle.std.specs.Prelude.{◌≡◌, ℕ, ◌==◌, false, not, filter, List, [], ◌∷◌, ◌++◌, None, Some, Ok, max}
+use Rattle.page_tree.specs.Tree.{HasDistinctIds, has_page}
+use Rattle.page_tree.specs.Rows.{Row, rows_of, raise_count}
+use Rattle.site_types.specs.Content.{ContentValue}
+use Rattle.site_types.specs.declared.reply.Reply.{Reply}
+use Rattle.site_model.specs.World.{TreePart, Effect}
+use Rattle.site_model.specs.Create.{create, plain_revision}
+
+-- the lists beside the tree, but for the revisions, and the numbers that no creation gives out
+pub record KeepsLists (before after : TreePart) : Type 0 where
+  pub users : after.users ≡ before.users
+  pub tasks : after.tasks ≡ before.tasks
+  pub workflows : after.workflows ≡ before.workflows
+  pub members : after.members ≡ before.members
+  pub grants : after.grants ≡ before.grants
+  pub desk_pairs : after.desk_pairs ≡ before.desk_pairs
+  pub next_user : after.next_user ≡ before.next_user
+  pub next_group : after.next_group ≡ before.next_group
+  pub next_task : after.next_task ≡ before.next_task
+  pub next_workflow : after.next_workflow ≡ before.next_workflow
+
+-- the rows without that of the page with the id
+abbrev pub other_rows : {Body : Type 0} → ℕ → List (Row Body) → List (Row Body)
+other_rows id rows = filter (λ row. not (row.id == id)) rows
+
+-- An accepted creation opens and ends no desk, keeps the lists and puts one revision behind the
+-- others. Where no two pages have one id and the next id is free, each row that was there stands
+-- where it stood and is as it was, but that its parent counts one child more.
+abbrev pub CreationKeepsTheRest : Type 0
+CreationKeepsTheRest =
+    (before after : TreePart) (effect : Effect Reply) (now caller parent : ℕ) (slug : List ℕ)
+    (content : ContentValue) →
+    create before now caller parent slug content ≡ Ok (after, effect) →
+    KeepsLists before after × (effect.opened ≡ None) × (effect.shut ≡ [])
+    × (after.revisions
+    ≡ before.revisions
+    ++ plain_revision before.next_revision before.next_page caller (max before.time now) content
+    ∷ [])
+    × (HasDistinctIds before.tree → has_page before.next_page before.tree ≡ false →
+    other_rows before.next_page (rows_of after.tree) ≡ raise_count (Some parent)
+    (rows_of before.tree))

@@ -6,3 +6,4 @@ pub mod CommitLemmas
 pub mod TranscriptLemmas
 pub mod ExchangeLemmas
 pub mod SoFarLemmas
+pub mod SessionLemmas

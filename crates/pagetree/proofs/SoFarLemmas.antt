@@ -127,7 +127,7 @@ module _ (start : Past) (site : Site) (held : List ℕ) (count : ℕ) (left_firs
       }
 
   -- more bytes were read behind the held ones
-  pub more_held : (later more : List ℕ) (left_later : Option (List ℕ)) → later ≡ held ++ more → with_front held left ≡ with_front later left_later → SoFar start site later count left_first left_later taken_first taken coming_first coming
+  abbrev pub more_held : (later more : List ℕ) (left_later : Option (List ℕ)) → later ≡ held ++ more → with_front held left ≡ with_front later left_later → SoFar start site later count left_first left_later taken_first taken coming_first coming
   more_held later more left_later is same = record {
     used = so.used;
     told = so.told;

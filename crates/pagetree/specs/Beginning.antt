@@ -1,5 +1,5 @@
 -- The history that a session starts with, and how it may stop.
-use Rattle.std.specs.Prelude.{◌≡◌, ℕ, List, [], ◌∷◌, Option}
+use Rattle.std.specs.Prelude.{◌≡◌, ℕ, List, [], ◌∷◌, codes, Option}
 use Rattle.outside_world.specs.Sink.{with_back, AppendsPart}
 use Rattle.site_model.specs.Start.{new_world}
 use Rattle.wire_model.specs.Answers.{not_built_text}
@@ -15,6 +15,10 @@ abc_digest =
     0xba ∷ 0x78 ∷ 0x16 ∷ 0xbf ∷ 0x8f ∷ 0x01 ∷ 0xcf ∷ 0xea ∷ 0x41 ∷ 0x41 ∷ 0x40 ∷ 0xde ∷ 0x5d ∷ 0xae ∷ 0x22 ∷ 0x23
     ∷ 0xb0 ∷ 0x03 ∷ 0x61 ∷ 0xa3 ∷ 0x96 ∷ 0x17 ∷ 0x7a ∷ 0x9c ∷ 0xb4 ∷ 0x10 ∷ 0xff ∷ 0x61 ∷ 0xf2 ∷ 0x00 ∷ 0x15 ∷ 0xad
     ∷ []
+
+-- the words of the command that answers requests
+abbrev pub session_words : List (List ℕ)
+session_words = codes "session" ∷ []
 
 -- the history without items of a new site, whose first user has the token `abc`
 unfoldable pub start : Past

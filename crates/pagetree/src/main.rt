@@ -1,4 +1,4 @@
-//! The page tree server.
+//! The page tree server: `pagetree FOLDER session` answers the requests of standard input.
 #![tactic(auto)]
 
 mod answer;
@@ -7,8 +7,62 @@ mod form;
 mod held;
 mod judged;
 mod request;
+mod run;
 mod session;
 mod site;
 mod status;
+mod words;
 
-fn main() {}
+use outside_world::{StreamSink, StreamSource, SystemClock};
+use run::run_command;
+use status::Status;
+use std::env;
+use std::io;
+use std::process::ExitCode;
+use words::Words;
+
+fn main(rt: HostRuntime) -> ExitCode {
+    let status = run_in(&rt);
+    if status != Status::Done {
+        // Where standard error takes no more, the exit code alone tells the status.
+        let _ = eprintln!(&rt; "pagetree: {status}");
+    }
+    ExitCode::from(status.code())
+}
+
+/// Runs the command behind the folder. The folder is not used yet.
+fn run_in(rt: &HostRuntime) -> Status {
+    let words = match words_behind_folder(rt) {
+        Ok(words) => words,
+        Err(status) => return status,
+    };
+    let mut source = StreamSource::new(rt.stdin());
+    let mut sink = StreamSink::new(rt.stdout());
+    let mut clock = SystemClock { runtime: *rt };
+    run_command(rt.alloc(), &words, &mut source, &mut sink, &mut clock)
+}
+
+/// The words of the command line behind the folder: none where there is no folder.
+fn words_behind_folder(rt: &HostRuntime) -> Result<Words, Status> {
+    let args = match env::args(rt) {
+        Ok(args) => args,
+        Err(error) => return Err(status_of(&error)),
+    };
+    let mut words = Words::new(rt.alloc());
+    for word in args.skip(2) {
+        if words.push(&word).is_err() {
+            return Err(Status::Memory);
+        }
+    }
+    Ok(words)
+}
+
+/// The status where the words of the command line cannot be had: memory was refused, or one of them
+/// is not UTF-8.
+fn status_of(error: &io::Error) -> Status {
+    if error.kind() == io::ErrorKind::OutOfMemory {
+        Status::Memory
+    } else {
+        Status::Usage
+    }
+}

@@ -7,3 +7,4 @@ pub mod TranscriptLemmas
 pub mod ExchangeLemmas
 pub mod SoFarLemmas
 pub mod SessionLemmas
+pub mod WordLemmas

@@ -11,6 +11,8 @@ mod run;
 mod session;
 mod site;
 mod status;
+#[cfg(test)]
+mod tests;
 mod words;
 
 use outside_world::{StreamSink, StreamSource, SystemClock};

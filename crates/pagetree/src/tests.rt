@@ -1,0 +1,204 @@
+//! Sessions with their bytes: what is asked, what is answered, and how it ends.
+use crate::run::run_command;
+use crate::status::Status;
+use crate::words::Words;
+use outside_world::{MemoryClock, MemorySink, MemorySource, PiecesSource, Source};
+use site_types::NoMemory;
+use std::alloc::{AllocError, Global};
+use std::process::Abort;
+use std::test::Fail;
+
+/// A request for a page below the root.
+const HOME: &[u8] = b"POST /api/pages HTTP/1.1\r\nAuthorization: Bearer abc\r\nContent-Length: 65\r\n\r\n\
+    {\"content\":{\"blocks\":[],\"title\":\"Home\"},\"parent\":1,\"slug\":\"home\"}";
+
+/// Its answer in a new site.
+const CREATED: &[u8] = b"HTTP/1.1 200 OK\r\nContent-Length: 51\r\nContent-Type: application/json\r\n\r\n\
+    {\"entry\":1,\"id\":2,\"path\":\"00010001\",\"url\":\"/home/\"}";
+
+/// Its answer where the slug is taken by page 2.
+const TAKEN: &[u8] = b"HTTP/1.1 409 Conflict\r\nContent-Length: 41\r\nContent-Type: application/json\r\n\r\n\
+    {\"name\":\"SlugTaken\",\"refused\":8,\"with\":2}";
+
+/// The answer where page 9, the parent, is not there.
+const NO_PAGE: &[u8] = b"HTTP/1.1 404 Not Found\r\nContent-Length: 38\r\nContent-Type: application/json\r\n\r\n\
+    {\"name\":\"NoPage\",\"refused\":1,\"with\":9}";
+
+/// The answer to what is not built.
+const NOT_BUILT: &[u8] = b"HTTP/1.1 501 Not Implemented\r\nContent-Length: 20\r\nContent-Type: application/json\r\n\
+    Connection: close\r\n\r\n{\"error\":\"NotBuilt\"}";
+
+/// A request for a page, whose title is its slug.
+fn request_for(alloc: Global, parent: u32, slug: &str) -> Result<String, AllocError> {
+    let body = format!(
+        in alloc;
+        "{{\"content\":{{\"blocks\":[],\"title\":\"{slug}\"}},\"parent\":{parent},\"slug\":\"{slug}\"}}"
+    )?;
+    format!(
+        in alloc;
+        "POST /api/pages HTTP/1.1\r\nAuthorization: Bearer abc\r\nContent-Length: {}\r\n\r\n{body}",
+        body.len()
+    )
+}
+
+/// The requests for pages `c1`, `c2` and so on below the root, so many of them.
+fn creations(alloc: Global, count: u32) -> Result<Vec<u8>, Fail> {
+    let mut bytes = Vec::new(alloc);
+    for k in 1..=count {
+        let slug = format!(in alloc; "c{k}")?;
+        let request = request_for(alloc, 1, &slug)?;
+        bytes.extend_from_slice(request.as_bytes())?;
+    }
+    Ok(bytes)
+}
+
+/// How the session on a source ends; its answers go to the sink.
+fn run_session<S: Source>(
+    alloc: Global,
+    source: &mut S,
+    sink: &mut MemorySink,
+) -> Result<Status, NoMemory> {
+    let mut words = Words::new(alloc);
+    words.push("session")?;
+    let mut clock = MemoryClock {
+        next: 1_700_000_000,
+        step: 0,
+    };
+    Ok(run_command(alloc, &words, source, sink, &mut clock))
+}
+
+/// The bytes of these parts, one after another.
+fn joined(alloc: Global, parts: &[&[u8]]) -> Result<Vec<u8>, AllocError> {
+    let mut bytes = Vec::new(alloc);
+    for part in parts {
+        bytes.extend_from_slice(part)?;
+    }
+    Ok(bytes)
+}
+
+/// Runs a session on the input, whole and in pieces, and expects this output and this end.
+fn expect_session(
+    rt: &impl Abort,
+    alloc: Global,
+    input: &[&[u8]],
+    output: &[&[u8]],
+    end: Status,
+) -> Result<(), Fail> {
+    let input = joined(alloc, input)?;
+    let output = joined(alloc, output)?;
+    for piece in [1, 7, 140, 100_000] {
+        let pieces = [piece].to_vec(alloc)?;
+        let mut source = PiecesSource::new(input.as_slice().to_vec(alloc)?, pieces, Vec::new(alloc));
+        let mut sink = MemorySink::new(alloc, Vec::new(alloc));
+        let status = run_session(alloc, &mut source, &mut sink)?;
+        assert_eq!(rt; status, end, "in pieces of {piece}");
+        assert_eq!(rt; sink.bytes(), output.as_slice(), "in pieces of {piece}");
+    }
+    Ok(())
+}
+
+#[test]
+fn requests_are_answered_one_after_another(rt: HostRuntime) -> Result<(), Fail> {
+    expect_session(&rt, rt.alloc(), &[], &[], Status::Done)?;
+    expect_session(&rt, rt.alloc(), &[HOME], &[CREATED], Status::Done)?;
+    expect_session(&rt, rt.alloc(), &[HOME, HOME], &[CREATED, TAKEN], Status::Done)?;
+    let lost = request_for(rt.alloc(), 9, "lost")?;
+    expect_session(&rt, rt.alloc(), &[HOME, lost.as_bytes(), HOME], &[CREATED, NO_PAGE, TAKEN], Status::Done)
+}
+
+#[test]
+fn what_is_not_built_ends_the_session(rt: HostRuntime) -> Result<(), Fail> {
+    let refused = Status::Refused(501);
+    let get = b"GET / HTTP/1.1\r\n\r\n";
+    expect_session(&rt, rt.alloc(), &[get], &[NOT_BUILT], refused)?;
+    expect_session(&rt, rt.alloc(), &[HOME, get, HOME], &[CREATED, NOT_BUILT], refused)?;
+    // Page 2 is a page other than the root.
+    let below = request_for(rt.alloc(), 2, "below")?;
+    expect_session(&rt, rt.alloc(), &[HOME, below.as_bytes()], &[CREATED, NOT_BUILT], refused)
+}
+
+#[test]
+fn input_that_ends_in_a_request_is_cut(rt: HostRuntime) -> Result<(), Fail> {
+    expect_session(&rt, rt.alloc(), &[&HOME[..139]], &[], Status::Cut(139))?;
+    expect_session(&rt, rt.alloc(), &[&HOME[..1]], &[], Status::Cut(1))?;
+    expect_session(&rt, rt.alloc(), &[HOME, &HOME[..75]], &[CREATED], Status::Cut(75))
+}
+
+#[test]
+fn steps_go_on_in_base_36(rt: HostRuntime) -> Result<(), Fail> {
+    let alloc = rt.alloc();
+    for (count, last) in [
+        (35, b"{\"entry\":35,\"id\":36,\"path\":\"0001000Z\",\"url\":\"/c35/\"}"),
+        (36, b"{\"entry\":36,\"id\":37,\"path\":\"00010010\",\"url\":\"/c36/\"}"),
+    ] {
+        let mut source = MemorySource::new(creations(alloc, count)?, Vec::new(alloc));
+        let mut sink = MemorySink::new(alloc, Vec::new(alloc));
+        assert_eq!(rt; run_session(alloc, &mut source, &mut sink)?, Status::Done);
+        assert!(rt; sink.bytes().ends_with(last), "after {count}");
+    }
+    Ok(())
+}
+
+#[test]
+fn a_session_answers_a_thousand_requests(rt: HostRuntime) -> Result<(), Fail> {
+    let alloc = rt.alloc();
+    let last = b"Connection: close\r\n\r\n{\"entry\":1000,\"id\":1001,\"path\":\"000100RS\",\"url\":\"/c1000/\"}";
+    let mut source = MemorySource::new(creations(alloc, 1001)?, Vec::new(alloc));
+    let mut sink = MemorySink::new(alloc, Vec::new(alloc));
+    assert_eq!(rt; run_session(alloc, &mut source, &mut sink)?, Status::Spent);
+    assert!(rt; sink.bytes().ends_with(last));
+    Ok(())
+}
+
+#[test]
+fn a_failed_read_or_write_ends_the_session(rt: HostRuntime) -> Result<(), Fail> {
+    let alloc = rt.alloc();
+    let input = joined(alloc, &[HOME, HOME])?;
+    let pieces = [150, 10].to_vec(alloc)?;
+    let mut source = PiecesSource::new(input, pieces, [2].to_vec(alloc)?);
+    let mut sink = MemorySink::new(alloc, Vec::new(alloc));
+    assert_eq!(rt; run_session(alloc, &mut source, &mut sink)?, Status::ReadFault);
+    assert_eq!(rt; sink.bytes(), CREATED);
+    let mut source = MemorySource::new(joined(alloc, &[HOME, HOME])?, Vec::new(alloc));
+    let mut sink = MemorySink::new(alloc, [2].to_vec(alloc)?);
+    assert_eq!(rt; run_session(alloc, &mut source, &mut sink)?, Status::WriteFault);
+    assert_eq!(rt; sink.bytes(), CREATED);
+    Ok(())
+}
+
+#[test]
+fn other_words_are_no_command(rt: HostRuntime) -> Result<(), Fail> {
+    let alloc = rt.alloc();
+    for line in ["", "serve", "sessions", "session now"] {
+        let mut words = Words::new(alloc);
+        for word in line.split(' ') {
+            words.push(word)?;
+        }
+        let mut source = MemorySource::new(HOME.to_vec(alloc)?, Vec::new(alloc));
+        let mut sink = MemorySink::new(alloc, Vec::new(alloc));
+        let mut clock = MemoryClock { next: 0, step: 0 };
+        let status = run_command(alloc, &words, &mut source, &mut sink, &mut clock);
+        assert_eq!(rt; status, Status::Usage, "at {line}");
+        assert!(rt; sink.bytes().is_empty(), "at {line}");
+    }
+    Ok(())
+}
+
+#[test]
+fn each_end_has_its_code_and_its_name(rt: HostRuntime) -> Result<(), Fail> {
+    for (status, code, name) in [
+        (Status::Done, 0, "Done"),
+        (Status::Usage, 2, "Usage"),
+        (Status::ReadFault, 3, "ReadFault"),
+        (Status::WriteFault, 4, "WriteFault"),
+        (Status::Memory, 6, "Memory"),
+        (Status::Cut(5), 8, "Cut"),
+        (Status::Refused(501), 10, "Refused"),
+        (Status::Spent, 11, "Spent"),
+    ] {
+        assert_eq!(rt; status.code(), code);
+        let text = format!(in rt.alloc(); "{status}")?;
+        assert_eq!(rt; text.as_str(), name);
+    }
+    Ok(())
+}

@@ -1,8 +1,7 @@
 -- Committing a creation: what the site has before and after it, and what the world has.
-use Rattle.std.proofs.Common.{◌≡◌, ◌≤◌, ◌<◌, ◌+◌, ℕ, List, [], ◌∷◌, ◌++◌, Option, Some, None, refl, sym, ap, ◌∙◌, arith, max}
-use Rattle.page_tree.specs.Tree.{Forest, bare, grown, End, kid_with_slug, kids_of, last_step, put_last, graft, AllIds, AreRising}
-use Rattle.page_tree.specs.Walk.{SLASH}
-use Rattle.page_tree.specs.Rows.{rows_of, child_url, with_row}
+use Rattle.std.proofs.Common.{◌≡◌, ◌<◌, ◌+◌, ℕ, List, [], ◌∷◌, ◌++◌, None, refl, sym, ap, ◌∙◌, arith, max}
+use Rattle.page_tree.specs.Tree.{Forest, bare, grown, kid_with_slug, kids_of, last_step, put_last, AllIds}
+use Rattle.page_tree.specs.Rows.{rows_of, with_row}
 use Rattle.page_tree.proofs.RowLemmas.{AllIds-weaker}
 use Rattle.page_tree.proofs.RootLemmas.{rooted, last_step-put_last, AreRising-put_last, AllIds-put_last}
 use Rattle.step_path.specs.Step.{IsStep}
@@ -17,7 +16,7 @@ use Rattle.wire_model.specs.Requests.{Request}
 use Rattle.wire_model.specs.Exchange.{CALLER, content_of}
 use Rattle.page_store.specs.PageRows.{seen_row, parent_id, IsNewRow}
 use Rattle.pagetree.specs.declared.site.Site.{Site}
-use Rattle.pagetree.specs.Standing.{StandsFor, IsYoung, IsReady, CanCommit, Creates, after_creation, fresh_row}
+use Rattle.pagetree.specs.Standing.{IsYoung, CanCommit, Creates, after_creation, fresh_row}
 use Rattle.pagetree.proofs.CreationLemmas.{new_row_fits, rows_with_new, reply_of_new}
 
 -- The site after a commit, by its fields.
@@ -31,7 +30,6 @@ pub record Committed (site after : Site) (request : Request) (url : List ℕ) (m
   pub number : after.number ≡ site.number + 1
 
 module _ (site : Site) (tally : Tally World) (request : Request) (url : List ℕ) (can : CanCommit site tally request url) where
-
   -- the site's last step is that of the pages below the root
   last_is : site.last_step ≡ last_step 0 can.ready.young.kids
   last_is = can.ready.stands.last_step ∙ ap (λ tree. last_step 0 (kids_of 1 tree)) can.ready.young.tree

@@ -1,24 +1,22 @@
 -- A page made below the root: its row may be put in, and the rows with it are those of the tree with the new page.
-use Rattle.std.proofs.Common.{◌≡◌, ◌≤◌, ◌<◌, ◌+◌, ◌-◌, ℕ, Bool, true, false, ◌||◌, List, [], ◌∷◌, ◌++◌, Option, Some, None, is_some, cond, nat_eq, refl, sym, ap, subst, ◌∙◌, length, take, arith, rules, find, max, length-append}
-use Rattle.std.specs.Option.{option_map, IfSome, IsSome}
+use Rattle.std.proofs.Common.{◌≡◌, ◌<◌, ◌+◌, ℕ, false, List, [], ◌∷◌, ◌++◌, Option, Some, None, is_some, nat_eq, refl, sym, ap, subst, ◌∙◌, arith}
 use Rattle.std.specs.List.{AllByRecursion}
-use Rattle.std.specs.Str.{bytes_eq}
 use Rattle.std.proofs.lemmas.Bool.Decides.{nat_tests}
 use Rattle.std.proofs.lemmas.List.{append-nil, append_assoc, append_cancel_left}
-use Rattle.page_tree.specs.Tree.{Forest, bare, grown, End, has_page, kids_of, kid_with_slug, last_step, put_last, graft, AllIds, AreRising}
-use Rattle.page_tree.specs.Walk.{SLASH, path_of, url_of}
-use Rattle.page_tree.specs.Rows.{Row, rows_below, rows_of, row_with, is_parent, kid_named, child_url, with_row}
+use Rattle.page_tree.specs.Tree.{Forest, bare, grown, End, has_page, kid_with_slug, last_step, graft, AllIds, AreRising}
+use Rattle.page_tree.specs.Walk.{SLASH}
+use Rattle.page_tree.specs.Rows.{Row, rows_below, rows_of, child_url, with_row}
 use Rattle.page_tree.proofs.RowLemmas.{has_page-rows, AllIds-weaker}
-use Rattle.page_tree.proofs.RootLemmas.{rooted, le-last_step, rows_of-append, last_step-put_last, AreRising-put_last, AllIds-put_last, leaf_row}
+use Rattle.page_tree.proofs.RootLemmas.{rooted, le-last_step, rows_of-append, leaf_row}
 use Rattle.page_tree.proofs.WalkLemmas.{path_of-append, url_of-append}
 use Rattle.step_path.specs.Step.{IsStep}
-use Rattle.step_path.specs.Path.{IsPath, IsPathText, path_text, steps_of}
+use Rattle.step_path.specs.Path.{IsPath, path_text, steps_of}
 use Rattle.step_path.proofs.PathLemmas.{IsPathText-path_text, steps_of-path_text}
 use Rattle.site_types.specs.declared.body.Body.{Body}
 use Rattle.site_types.specs.declared.reply.Reply.TheVariants.{Page}
 use Rattle.site_model.specs.Create.{fresh_body, page_reply}
 use Rattle.wire_model.specs.Exchange.{CALLER}
-use Rattle.page_store.specs.PageRows.{seen_row, parent_id, above, IsNewRow}
+use Rattle.page_store.specs.PageRows.{seen_row, parent_id, IsNewRow}
 use Rattle.pagetree.specs.Standing.{fresh_row}
 use Rattle.pagetree.proofs.SiteLemmas.{slug_in_rows}
 
@@ -53,9 +51,10 @@ none_below : (parent : Option ℕ) (path more url : List ℕ) (late early : ℕ)
 none_below parent path more url late early bare h = tt
 none_below parent path more url late early (grown i s slug body kids rest) h =
     let regroup = append_assoc (path ++ early ∷ []) more (s ∷ []) in
-    let below = none_below (Some i) path (more ++ s ∷ []) (child_url url slug) late early kids h in
-    ( (λ is. other_step path (more ++ s ∷ []) late early h (sym regroup ∙ is))
-    , NoneHas-append (path ++ late ∷ []) _ _ (rw (← regroup) at below) (none_below parent path more url late early rest h) )
+    let below = none_below (Some i) path (more ++ s ∷ []) (child_url url slug) late early kids h in (
+      (λ is. other_step path (more ++ s ∷ []) late early h (sym regroup ∙ is)),
+      NoneHas-append (path ++ late ∷ []) _ _ (rw (← regroup) at below) (none_below parent path more url late early rest h),
+    )
 
 -- no row of siblings with earlier steps, or below them, has the path of a later step
 none_before : (parent : Option ℕ) (path url : List ℕ) (before late : ℕ) (f : Forest Body) → AreRising before f → last_step before f < late → NoneHas (path ++ late ∷ []) (rows_below parent path url f)
@@ -63,9 +62,10 @@ none_before parent path url before late bare rising h = tt
 none_before parent path url before late (grown i s slug body kids rest) rising h =
     let reaches = le-last_step s rest rising.2 in
     let early : s < late = omega arith in
-    let below = rw append-nil at (none_below (Some i) path [] (child_url url slug) late s kids early) in
-    ( (λ is. other_step path [] late s early (append-nil (path ++ s ∷ []) ∙ is))
-    , NoneHas-append (path ++ late ∷ []) _ _ below (none_before parent path url s late rest rising.2 h) )
+    let below = rw append-nil at (none_below (Some i) path [] (child_url url slug) late s kids early) in (
+      (λ is. other_step path [] late s early (append-nil (path ++ s ∷ []) ∙ is)),
+      NoneHas-append (path ++ late ∷ []) _ _ below (none_before parent path url s late rest rising.2 h),
+    )
 
 -- the path of a page below the root
 below_root : (step : ℕ) → IsStep step → IsPath (1 ∷ step ∷ [])
@@ -74,7 +74,6 @@ below_root step is = record { some = omega arith; within = omega arith; steps = 
 module _ (root : Body) (kids : Forest Body) (id step revision : ℕ) (slug : List ℕ) (apart : AllIds (λ i. i ≡ 1 → ⊥) kids)
     (below : AllIds (λ i. i < id) kids) (rising : AreRising 0 kids) (step_is : step ≡ last_step 0 kids + 1)
     (is_step : IsStep step) (late : 1 < id) where
-
   -- no page has the new id
   new_id : AllIds (λ i. i ≡ id → ⊥) kids
   new_id = AllIds-weaker (λ i. i < id) (λ i. i ≡ id → ⊥) kids (λ i less is. omega arith) below

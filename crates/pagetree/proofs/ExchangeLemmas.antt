@@ -1,5 +1,5 @@
 -- An exchange is an answer and a response to it.
-use Rattle.std.proofs.Common.{◌≡◌, ℕ, Bool, List, Option, Result, Ok, Err}
+use Rattle.std.proofs.Common.{ℕ, Bool, List, Option, Result, Ok, Err}
 use Rattle.site_history.specs.History.{Tally}
 use Rattle.site_model.specs.World.{World}
 use Rattle.wire_model.specs.Requests.{Request}

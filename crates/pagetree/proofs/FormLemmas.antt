@@ -1,18 +1,17 @@
 -- Reading on by one byte: what stands behind a text, the longest front of one kind, the number that digits write.
-use Rattle.std.proofs.Common.{◌≡◌, ◌≢◌, ◌≤◌, ◌<◌, ◌+◌, ◌-◌, ◌*◌, ◌^◌, ℕ, suc, Bool, true, false, List, [], ◌∷◌, ◌++◌, length, take, drop, get_or, cond, nat_eq, nat_lt, nat_le, not, ◌&&◌, Option, Some, None, refl, sym, ap, ◌∙◌, arith, rules, tests, add-one}
+use Rattle.std.proofs.Common.{◌≡◌, ◌≤◌, ◌<◌, ◌+◌, ◌-◌, ◌*◌, ◌^◌, ℕ, Bool, true, false, List, [], ◌∷◌, ◌++◌, length, take, drop, get_or, cond, nat_eq, nat_lt, nat_le, not, ◌&&◌, Option, Some, None, refl, sym, ap, ◌∙◌, arith, rules, tests}
 use Rattle.std.proofs.Math.Numerals.{one-add}
 use Rattle.std.proofs.Math.Nat.{pow-le-pow_right}
 use Rattle.std.specs.List.{take_while, prefix_len, list_all}
 use Rattle.std.proofs.lemmas.Bool.Decides.{nat_tests}
 use Rattle.std.proofs.lemmas.List.{drop_more, drop_all, drop_at, take-append-drop, length-append, append_assoc}
 use Rattle.wire_model.specs.declared.words.TheConstants.{HEAD_FRONT}
-use Rattle.wire_model.specs.Requests.{Request, Behind, behind, too_short, different, after_text, number_after, writes_page_id, is_page_id, Head, head, head_at, body_of, Front, whole, front}
+use Rattle.wire_model.specs.Requests.{Request, behind, too_short, different, after_text, number_after, writes_page_id, is_page_id, head, head_at, body_of, whole, front}
 use Rattle.wire_model.proofs.SplitLemmas.{head_splits}
 use Rattle.std.specs.Option.{SomeIff}
 use Rattle.site_types.specs.Ids.{IsPageId}
 
 module _ (text bytes : List ℕ) (i : ℕ) where
-
   -- the bytes end within the text
   pub after-ended : i < length text → length bytes ≤ i → after_text (drop i text) (drop i bytes) ≡ too_short
   unfolding after_text
@@ -108,7 +107,7 @@ unfolding front
 finds_whole bytes rest n request is fits body =
     let split = rw is at (head_splits bytes) in
     let all : bytes ≡ ((HEAD_FRONT.now ++ split.0) ++ take n rest) ++ drop n rest =
-        split.1 ∙ (ap (λ xs. (HEAD_FRONT.now ++ split.0) ++ xs) (sym (take-append-drop n rest)) ∙ sym (append_assoc (HEAD_FRONT.now ++ split.0) (take n rest) (drop n rest))) in
+    split.1 ∙ (ap (λ xs. (HEAD_FRONT.now ++ split.0) ++ xs) (sym (take-append-drop n rest)) ∙ sym (append_assoc (HEAD_FRONT.now ++ split.0) (take n rest) (drop n rest))) in
     let lengths = ap length all in
     let parts = length-append ((HEAD_FRONT.now ++ split.0) ++ take n rest) (drop n rest) in
     let parts_2 = length-append (HEAD_FRONT.now ++ split.0) (take n rest) in

@@ -1,10 +1,10 @@
 -- The bytes that stand from one place of a room to another: more behind them, and fewer.
-use Rattle.std.proofs.Common.{◌≡◌, ◌≤◌, ◌+◌, ◌-◌, ℕ, List, [], ◌∷◌, ◌++◌, length, take, drop, Option, refl, sym, ap, ◌∙◌, arith, length-append, length-take, length-drop}
-use Rattle.std.proofs.lemmas.List.{drop-take, drop-drop, take-append-drop, take_at, drop-append-le, take-append-le, append_assoc}
+use Rattle.std.proofs.Common.{◌≡◌, ◌≤◌, ◌+◌, ◌-◌, ℕ, List, ◌++◌, length, take, drop, Option, sym, ap, ◌∙◌, arith, length-take}
+use Rattle.std.proofs.lemmas.List.{drop-take, drop-drop, drop-append-le}
 use Rattle.std.proofs.Math.Seq.{take-add}
 use Rattle.outside_world.specs.Source.{with_front}
 use Rattle.pagetree.specs.Holding.{held_in}
-use Rattle.outside_world.proofs.SourceLemmas.{with_front-nil, with_front-with_front}
+use Rattle.outside_world.proofs.SourceLemmas.{with_front-with_front}
 
 -- they are the front up to the second place, without what is in front of the first
 pub held_in-front : (room : List ℕ) (from to : ℕ) → from ≤ to → held_in room from to ≡ drop from (take to room)

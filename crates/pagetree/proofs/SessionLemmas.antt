@@ -1,14 +1,13 @@
 -- How a session begins, and how its ends follow from what stands.
-use Rattle.std.proofs.Common.{◌≡◌, ◌≤◌, ◌<◌, ◌+◌, ℕ, Bool, List, [], ◌∷◌, ◌++◌, Option, Some, None, Result, Ok, Err, length, take, drop, nat_eq, refl, sym, ap, subst, ◌∙◌, arith, cond, add-zero, inl, inr}
+use Rattle.std.proofs.Common.{◌≡◌, ◌<◌, ◌+◌, ℕ, List, [], Option, Some, None, Err, nat_eq, refl, sym, ap, subst, arith, inl, inr}
 use Rattle.std.proofs.lemmas.List.{append-nil}
 use Rattle.outside_world.specs.Source.{with_front}
-use Rattle.outside_world.specs.Sink.{with_back, AppendsPart}
+use Rattle.outside_world.specs.Sink.{with_back}
 use Rattle.page_tree.specs.Tree.{bare}
 use Rattle.site_types.specs.RootBody.{root_body}
 use Rattle.site_model.specs.Start.{new_world}
 use Rattle.wire_model.specs.declared.words.TheConstants.{ANSWER_LIMIT}
-use Rattle.wire_model.specs.Answers.{not_built_text}
-use Rattle.wire_model.specs.Exchange.{unbuilt, judge, is_built, tally_of}
+use Rattle.wire_model.specs.Exchange.{unbuilt, judge, tally_of}
 use Rattle.pagetree.specs.declared.exchange.Interrupted.{Interrupted}
 use Rattle.pagetree.specs.declared.exchange.Interrupted.TheVariants.{BeforeAnswer, BeforeWriting, InWriting}
 use Rattle.pagetree.specs.declared.request.Request.{Request}
@@ -78,7 +77,6 @@ ends_at_once bytes taken coming = record {
 module _ (site : Site) (held : List ℕ) (count : ℕ) (left_first left : Option (List ℕ))
     (taken_first taken : Option (List ℕ)) (coming_first coming : ℕ → Option ℕ)
     (so : SoFar start site held count left_first left taken_first taken coming_first coming) where
-
   -- the site is ready for a request that is asked at the front of the bytes held
   pub is_ready : (request : Request) (n : ℕ) → AsksAt (tally_of so.past).world held request n → count < ANSWER_LIMIT → IsReady site (tally_of so.past) (asked request)
   is_ready request n asks_at few = record {

@@ -1,27 +1,25 @@
 -- What the rows of a site say of the world that it stands for, before a creation and after it.
-use Rattle.std.proofs.Common.{◌≡◌, ◌≢◌, ◌≤◌, ◌<◌, ◌+◌, ℕ, Bool, true, false, not, ◌||◌, List, [], ◌∷◌, ◌++◌, Option, Some, None, Result, Ok, Err, is_none, is_some, cond, nat_eq, refl, sym, ap, subst, ◌∙◌, arith, rules, tests, find, max, IsTrue, ◌&&◌, length, length-append, get_or, suc, zero}
+use Rattle.std.proofs.Common.{◌≡◌, ◌≤◌, ◌<◌, ◌+◌, ℕ, Bool, true, false, not, ◌||◌, List, [], ◌∷◌, ◌++◌, Option, Some, None, Ok, Err, is_some, cond, nat_eq, refl, sym, ap, subst, ◌∙◌, arith, IsTrue, ◌&&◌, length, length-append, get_or, suc, zero}
 use Rattle.std.specs.Borrow.{Bor}
 use Rattle.std.specs.Option.{option_copied, option_map}
 use Rattle.std.specs.List.{AllByRecursion, list_all}
 use Rattle.std.specs.Str.{IsUtf8}
 use Rattle.std.proofs.lemmas.Str.{IsUtf8-from_ascii}
 use Rattle.std.proofs.lemmas.List.Elements.{All-nil}
-use Rattle.std.specs.Str.{bytes_eq}
 use Rattle.std.proofs.lemmas.Bool.Decides.{nat_tests}
-use Rattle.std.proofs.lemmas.List.{append-nil, append_assoc}
-use Rattle.page_tree.specs.Tree.{Forest, bare, grown, End, has_page, kids_of, kid_with_slug, last_step, put_last, graft, AllIds, AreRising}
-use Rattle.page_tree.specs.Walk.{SLASH, path_of, url_of}
-use Rattle.page_tree.specs.Rows.{Row, rows_below, rows_of, row_with, is_parent, kid_named, child_url, with_row}
-use Rattle.page_tree.proofs.RowLemmas.{find-append, has_page-rows, kid_named-rows, AllIds-weaker}
-use Rattle.page_tree.proofs.RootLemmas.{rooted, rows_of-append, last_step-put_last, AreRising-put_last, AllIds-put_last, leaf_row}
-use Rattle.page_tree.proofs.WalkLemmas.{path_of-append, url_of-append}
+use Rattle.std.proofs.lemmas.List.{append-nil}
+use Rattle.page_tree.specs.Tree.{Forest, has_page, kids_of, kid_with_slug, AllIds}
+use Rattle.page_tree.specs.Walk.{SLASH}
+use Rattle.page_tree.specs.Rows.{Row, rows_below, rows_of, row_with, kid_named, child_url}
+use Rattle.page_tree.proofs.RowLemmas.{has_page-rows, kid_named-rows}
+use Rattle.page_tree.proofs.RootLemmas.{rooted}
 use Rattle.site_types.specs.declared.body.Body.{Body}
 use Rattle.site_types.specs.declared.page_row.PageRow.{PageRow}
 use Rattle.page_store.specs.PageRows.{page_row}
 use Rattle.site_types.specs.declared.refusal.Refusal.{Refusal}
 use Rattle.site_types.specs.declared.refusal.Refusal.TheVariants.{NoPage, SlugTaken}
 use Rattle.site_types.specs.declared.reply.Reply.{Reply}
-use Rattle.site_types.specs.Content.{ContentValue, FitsLimits, FitsBlock, content_form, content_of}
+use Rattle.site_types.specs.Content.{FitsLimits, FitsBlock, content_of}
 use Rattle.site_types.specs.declared.block.Block.{Block}
 use Rattle.site_history.specs.History.{Tally}
 use Rattle.site_model.specs.World.{World}
@@ -31,7 +29,7 @@ use Rattle.wire_model.specs.Requests.{Request, is_title_byte}
 use Rattle.wire_model.specs.Exchange.{CALLER, content_of as asked_content, entry_of}
 use Rattle.pagetree.specs.declared.site.Site.{Site}
 use Rattle.pagetree.specs.declared.answer.Answer.TheVariants.{Accepted, Refused}
-use Rattle.pagetree.specs.Standing.{StandsFor, IsYoung, IsReady, Creates, CanCommit, Answers, AnsweredBy}
+use Rattle.pagetree.specs.Standing.{StandsFor, IsReady, Creates, CanCommit, Answers, AnsweredBy}
 
 -- a row is found where the page is there
 pub found_row : (found : Option (Bor PageRow)) (id : ℕ) (tree : Forest Body) (pages : List (Row Body)) → option_copied found ≡ option_map page_row (row_with id pages) → pages ≡ rows_of tree → is_some found ≡ has_page id tree
@@ -66,7 +64,6 @@ built_at_root id true is built = grind (arith, nat_tests)
 built_at_root id false is built = cc
 
 module _ (site : Site) (tally : Tally World) (request : Request) (ready : IsReady site tally request) where
-
   -- where the parent is there, it is the root
   pub parent_is_root : has_page request.parent tally.world.part.tree ≡ true → request.parent ≡ 1
   parent_is_root there = built_at_root request.parent (has_page request.parent tally.world.part.tree) there ready.built
@@ -136,10 +133,11 @@ pub answers_created : (site : Site) (tally : Tally World) (request : Request) (m
 answers_created site tally request moment reply none made =
     let stands = made.stands in
     let young = made.young in
-    subst (AnsweredBy tally (Accepted site.number reply) site) (sym (step_created tally.world request moment (tally.number + 1) none))
-    ( rw (stands.number, made.reply_is) refl
-    , record { pages = stands.pages; revisions = stands.revisions; time = stands.time; next_page = stands.next_page; next_revision = stands.next_revision; last_step = stands.last_step; number = stands.number }
-    , record { root = young.root; kids = young.kids; tree = young.tree; apart = young.apart; below = young.below; rising = young.rising; steps = young.steps; next_page = young.next_page; next_revision = young.next_revision } )
+    subst (AnsweredBy tally (Accepted site.number reply) site) (sym (step_created tally.world request moment (tally.number + 1) none)) (
+      rw (stands.number, made.reply_is) refl,
+      record { pages = stands.pages; revisions = stands.revisions; time = stands.time; next_page = stands.next_page; next_revision = stands.next_revision; last_step = stands.last_step; number = stands.number },
+      record { root = young.root; kids = young.kids; tree = young.tree; apart = young.apart; below = young.below; rising = young.rising; steps = young.steps; next_page = young.next_page; next_revision = young.next_revision },
+    )
 
 -- each byte of a title is ASCII
 title_bytes : (title : List ℕ) → list_all is_title_byte title ≡ true → AllByRecursion (λ b. b < 128) title

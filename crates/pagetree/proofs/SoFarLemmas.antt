@@ -1,28 +1,25 @@
 -- What a session has done so far, and how one turn goes on from it or ends it.
-use Rattle.std.proofs.Common.{◌≡◌, ◌≤◌, ◌<◌, ◌+◌, ℕ, Bool, true, false, List, [], ◌∷◌, ◌++◌, Option, Some, None, IfSome, length, take, drop, nat_eq, refl, sym, ap, subst, ◌∙◌, arith, cond, inl, inr}
+use Rattle.std.proofs.Common.{◌≡◌, ◌≤◌, ◌<◌, ◌+◌, ℕ, true, false, List, [], ◌∷◌, ◌++◌, Option, Some, None, IfSome, length, take, drop, nat_eq, refl, sym, ap, subst, ◌∙◌, arith}
 use Rattle.std.proofs.lemmas.Bool.Decides.{nat_tests}
-use Rattle.std.proofs.lemmas.List.{append_assoc, append-nil, take-append-drop, drop-append-le, length-append}
+use Rattle.std.proofs.lemmas.List.{append_assoc, append-nil, take-append-drop, length-append}
 use Rattle.outside_world.specs.Source.{with_front, IsSpent}
 use Rattle.outside_world.specs.Sink.{with_back, AppendsPart}
 use Rattle.outside_world.proofs.SourceLemmas.{with_front-with_front}
 use Rattle.outside_world.proofs.SinkLemmas.{with_back-with_back}
-use Rattle.page_tree.specs.Rows.{rows_of}
-use Rattle.site_history.specs.History.{Tally}
-use Rattle.site_model.specs.World.{World}
 use Rattle.wire_model.specs.declared.words.TheConstants.{ANSWER_LIMIT}
 use Rattle.wire_model.specs.Answers.{answer_text, not_built_text}
-use Rattle.wire_model.specs.Exchange.{Past, Told, Judged, asks, nothing_left, unfinished, unbuilt, judge, tally_of}
+use Rattle.wire_model.specs.Exchange.{Past, Told, Judged, unbuilt, judge, tally_of}
 use Rattle.wire_model.specs.Transcript.{Follows, HasMoments, text_of}
-use Rattle.wire_model.proofs.RequestLemmas.{GrowsJudged, judge_grows}
+use Rattle.wire_model.proofs.RequestLemmas.{judge_grows}
 use Rattle.pagetree.specs.declared.site.Site.{Site}
 use Rattle.pagetree.specs.declared.request.Request.{Request}
 use Rattle.pagetree.specs.declared.status.Status.{Status}
-use Rattle.pagetree.specs.declared.status.Status.TheVariants.{Done, Usage, ReadFault, WriteFault, Memory, Cut, Refused, Spent}
+use Rattle.pagetree.specs.declared.status.Status.TheVariants.{Refused, Spent}
 use Rattle.pagetree.specs.Reading.{asked}
 use Rattle.pagetree.specs.Answering.{answered}
-use Rattle.pagetree.specs.Standing.{StandsFor, IsYoung, IsReady, Answers}
-use Rattle.pagetree.specs.Judging.{AsksAt, StopsAt}
-use Rattle.pagetree.specs.Exchanging.{WasAnswered, WasWritten, WasKept, WasBroken}
+use Rattle.pagetree.specs.Standing.{StandsFor, IsYoung}
+use Rattle.pagetree.specs.Judging.{AsksAt}
+use Rattle.pagetree.specs.Exchanging.{WasAnswered}
 use Rattle.pagetree.specs.Ending.{end_judged, end_of, last_text, Reached, EndsAsJudged, EndsAtRead, EndsInAnswer, EndsInRefusal, EndsUnanswered}
 use Rattle.pagetree.proofs.TranscriptLemmas.{Follows-push, HasMoments-push, text_of-push, Exchanged, exchanged}
 
@@ -50,21 +47,23 @@ rest_after used held (Some rest) bytes is = (rest, refl, let same : (used ++ hel
 module _ (start : Past) (site : Site) (held : List ℕ) (count : ℕ) (left_first left : Option (List ℕ))
     (taken_first taken : Option (List ℕ)) (coming_first coming : ℕ → Option ℕ)
     (so : SoFar start site held count left_first left taken_first taken coming_first coming) where
-
   -- the transcript so far, from all the bytes
   abbrev pub reached : (bytes : List ℕ) → left_first ≡ Some bytes → count ≤ ANSWER_LIMIT → (r : Reached start bytes coming_first) × (r.told ≡ so.told) × (r.past ≡ so.past) × ((rest : List ℕ) × (left ≡ Some rest) × (r.rest ≡ held ++ rest))
   reached bytes told few =
       let all = rest_after so.used held left bytes (sym so.left_is ∙ told) in
-      let within = so.count_is in
-      ( record {
+      let within = so.count_is in (
+        record {
           told = so.told;
           past = so.past;
           rest = held ++ all.0;
           follows = subst (λ (b : List ℕ). Follows start b so.told so.past (held ++ all.0)) (sym all.2) (so.follows all.0);
           moments = so.moments;
           within = omega arith;
-        }
-      , refl, refl, (all.0, all.1, refl) )
+        },
+        refl,
+        refl,
+        (all.0, all.1, refl),
+      )
 
   -- a read failed
   pub ends_at_read : (bytes : List ℕ) → left_first ≡ Some bytes → count ≤ ANSWER_LIMIT → EndsAtRead start bytes coming_first taken_first taken
@@ -146,7 +145,6 @@ module _ (start : Past) (site : Site) (held : List ℕ) (count : ℕ) (left_firs
 
   module _ (request : Request) (n : ℕ) (asks_at : AsksAt (tally_of so.past).world held request n) (after : Site)
       (was : WasAnswered (tally_of so.past) (coming 0) (asked request) after) where
-
     -- the exchange that was made
     abbrev pub one : Told
     one = record { request = asked request; moment = was.moment; answer = answered was.answer }
@@ -201,16 +199,17 @@ module _ (start : Past) (site : Site) (held : List ℕ) (count : ℕ) (left_firs
     reached_more bytes told few =
         let all = rest_after so.used held left bytes (sym so.left_is ∙ told) in
         let c = so.count_is in
-        let l = length-append so.told (one ∷ []) in
-        ( record {
+        let l = length-append so.told (one ∷ []) in (
+          record {
             told = so.told ++ one ∷ [];
             past = made.next;
             rest = drop n held ++ all.0;
             follows = subst (λ (b : List ℕ). Follows start b (so.told ++ one ∷ []) made.next (drop n held ++ all.0)) (sym (all.2 ∙ same_bytes all.0)) (follows_more all.0);
             moments = moments_more;
             within = omega arith;
-          }
-        , refl )
+          },
+          refl,
+        )
 
     -- a write failed within the answer
     pub ends_in_answer : (bytes : List ℕ) (taken_later : Option (List ℕ)) → left_first ≡ Some bytes → count < ANSWER_LIMIT → AppendsPart taken taken_later (answer_text (answered was.answer) (nat_eq (count + 1) ANSWER_LIMIT)) → EndsInAnswer start bytes coming_first taken_first taken_later

@@ -1,5 +1,5 @@
 -- A transcript with one more request at its end.
-use Rattle.std.proofs.Common.{◌≡◌, ◌≤◌, ◌+◌, ℕ, Bool, List, [], ◌∷◌, ◌++◌, Option, IfSome, Result, Ok, Err, length, nat_eq, refl, sym, ap, subst, ◌∙◌, arith, add-one, add-zero, add_assoc}
+use Rattle.std.proofs.Common.{◌≡◌, ◌≤◌, ◌+◌, ℕ, List, [], ◌∷◌, ◌++◌, Option, IfSome, Result, Ok, Err, length, nat_eq, refl, sym, ap, subst, ◌∙◌, arith, add-zero}
 use Rattle.std.proofs.lemmas.List.{append_assoc, append-nil}
 use Rattle.site_types.specs.declared.entry.Entry.{Entry}
 use Rattle.site_types.specs.declared.refusal.Refusal.{Refusal}
@@ -11,8 +11,8 @@ use Rattle.site_model.specs.World.{World}
 use Rattle.site_model.specs.Step.{step}
 use Rattle.wire_model.specs.declared.words.TheConstants.{ANSWER_LIMIT}
 use Rattle.wire_model.specs.Requests.{Request}
-use Rattle.wire_model.specs.Answers.{Answer, answer_text}
-use Rattle.wire_model.specs.Exchange.{Past, Told, Exchange, ExchangedBy, Judged, asks, judge, tally_of, number_of, entry_of}
+use Rattle.wire_model.specs.Answers.{answer_text}
+use Rattle.wire_model.specs.Exchange.{Past, Told, Exchange, asks, judge, tally_of, number_of, entry_of}
 use Rattle.wire_model.specs.Transcript.{Follows, HasMoments, text_behind, text_of}
 use Rattle.pagetree.specs.declared.answer.Answer.{Answer as GivenAnswer}
 use Rattle.pagetree.specs.declared.site.Site.{Site}

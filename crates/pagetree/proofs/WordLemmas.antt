@@ -1,6 +1,6 @@
 -- The one word of a command.
-use Rattle.std.proofs.Common.{◌≡◌, ◌<◌, ℕ, Bool, List, [], ◌∷◌, length, get_or, nat_eq, sym, ap, ◌∙◌, arith}
-use Rattle.std.specs.Bool.{Decides, IsTrue}
+use Rattle.std.proofs.Common.{◌≡◌, ◌<◌, ℕ, Bool, List, [], ◌∷◌, length, get_or, nat_eq, ap, arith}
+use Rattle.std.specs.Bool.{IsTrue}
 use Rattle.std.specs.Cmp.Lexicographic.{pointwise, bytes_decides}
 
 -- the head of a list that has one

@@ -5,7 +5,7 @@ use Rattle.site_model.specs.Start.{new_world}
 use Rattle.wire_model.specs.Answers.{not_built_text}
 use Rattle.wire_model.specs.Exchange.{Past}
 use Rattle.pagetree.specs.declared.status.Status.{Status}
-use Rattle.pagetree.specs.declared.status.Status.TheVariants.{Done, Usage, ReadFault, WriteFault, Memory, Cut, Refused, Spent}
+use Rattle.pagetree.specs.declared.status.Status.TheVariants.{WriteFault, Memory, Refused}
 use Rattle.pagetree.specs.declared.exchange.Interrupted.{Interrupted}
 use Rattle.pagetree.specs.declared.exchange.Interrupted.TheVariants.{BeforeAnswer, BeforeWriting, InWriting}
 

@@ -1,5 +1,5 @@
 -- How a session ends, and what stands when it has ended.
-use Rattle.std.specs.Prelude.{◌≡◌, ℕ, Bool, true, false, ◌==◌, ◌+◌, ◌<◌, ◌≤◌, ◌⊎◌, List, [], ◌∷◌, ◌++◌, length, Option, Some, None, if◌then◌else◌}
+use Rattle.std.specs.Prelude.{◌≡◌, ℕ, ◌==◌, ◌+◌, ◌≤◌, ◌⊎◌, List, [], ◌∷◌, ◌++◌, length, Option, Some, None, if◌then◌else◌}
 use Rattle.outside_world.specs.Sink.{with_back, AppendsPart}
 use Rattle.wire_model.specs.declared.words.TheConstants.{ANSWER_LIMIT}
 use Rattle.wire_model.specs.Answers.{answer_text, not_built_text}

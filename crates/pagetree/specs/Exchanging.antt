@@ -1,5 +1,5 @@
 -- What stands after the exchange of one request, whole or interrupted.
-use Rattle.std.specs.Prelude.{◌≡◌, ℕ, ◌+◌, Bool, List, Option, Result, Ok, Err, IfSome}
+use Rattle.std.specs.Prelude.{◌≡◌, ℕ, Bool, List, Option, Result, Ok, Err, IfSome}
 use Rattle.outside_world.specs.Sink.{with_back, AppendsPart}
 use Rattle.site_history.specs.History.{Tally}
 use Rattle.site_model.specs.World.{World}
@@ -10,7 +10,7 @@ use Rattle.pagetree.specs.declared.site.Site.{Site}
 use Rattle.pagetree.specs.declared.exchange.Interrupted.{Interrupted}
 use Rattle.pagetree.specs.declared.exchange.Interrupted.TheVariants.{BeforeAnswer, BeforeWriting, InWriting}
 use Rattle.pagetree.specs.Answering.{answered}
-use Rattle.pagetree.specs.Standing.{StandsFor, Answers}
+use Rattle.pagetree.specs.Standing.{Answers}
 
 -- a request was answered, at the moment that the clock gave
 pub record WasAnswered (tally : Tally World) (coming : Option ℕ) (request : Request) (site : Site) : Type 0 where

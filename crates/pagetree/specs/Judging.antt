@@ -2,7 +2,7 @@
 use Rattle.std.specs.Prelude.{◌≡◌, ℕ, ◌<◌, ◌≤◌, List, [], length, drop, IsTrue}
 use Rattle.site_model.specs.World.{World}
 use Rattle.wire_model.specs.declared.words.TheConstants.{MAX_REQUEST}
-use Rattle.wire_model.specs.Exchange.{asks, nothing_left, unfinished, unbuilt, judge, is_built}
+use Rattle.wire_model.specs.Exchange.{asks, unfinished, unbuilt, judge, is_built}
 use Rattle.pagetree.specs.declared.judged.Judged.{Judged}
 use Rattle.pagetree.specs.declared.judged.Judged.TheVariants.{Asks, Nothing, Unfinished, Unbuilt}
 use Rattle.pagetree.specs.declared.request.Request.{Request}

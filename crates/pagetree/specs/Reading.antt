@@ -1,5 +1,5 @@
 -- How the code's readings of requests stand for those of the model.
-use Rattle.std.specs.Prelude.{◌≡◌, ℕ, Bool, ◌+◌, ◌<◌, ◌≤◌, List, length, drop}
+use Rattle.std.specs.Prelude.{◌≡◌, ℕ, Bool, ◌<◌, ◌≤◌, List, length, drop}
 use Rattle.site_types.specs.Slug.{is_slug_byte}
 use Rattle.wire_model.specs.Requests.{is_digit, is_title_byte, Behind, behind, too_short, different}
 use Rattle.wire_model.specs.Requests as model

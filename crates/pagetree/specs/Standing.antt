@@ -1,5 +1,5 @@
 -- How the site in memory stands for what a history comes to, and what holds of every world that a session reaches.
-use Rattle.std.specs.Prelude.{◌≡◌, ℕ, ◌+◌, ◌<◌, ◌≤◌, List, [], ◌∷◌, Option, Some, None, Result, Ok, Err, IsTrue}
+use Rattle.std.specs.Prelude.{◌≡◌, ℕ, ◌+◌, ◌<◌, ◌≤◌, List, [], ◌∷◌, None, Result, Ok, Err, IsTrue}
 use Rattle.page_tree.specs.Tree.{Forest, kids_of, kid_with_slug, last_step, AllIds, AreRising}
 use Rattle.page_tree.specs.Walk.{SLASH}
 use Rattle.page_tree.specs.Rows.{rows_of, child_url}
@@ -7,7 +7,6 @@ use Rattle.step_path.specs.Path.{path_text}
 use Rattle.page_tree.proofs.RootLemmas.{rooted}
 use Rattle.site_types.specs.declared.body.Body.{Body}
 use Rattle.site_types.specs.declared.page_row.PageRow.{PageRow}
-use Rattle.site_types.specs.declared.entry.Entry.{Entry}
 use Rattle.site_types.specs.declared.refusal.Refusal.{Refusal}
 use Rattle.site_types.specs.declared.reply.Reply.{Reply}
 use Rattle.site_history.specs.History.{Tally}

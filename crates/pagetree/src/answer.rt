@@ -49,12 +49,7 @@ pub fn not_built_response(alloc: Global) -> Result<Vec<u8>, NoMemory>
 
 /// A response with this status line and this body.
 #[tactic(auto, unfolding(wire_model::specs::Answers::response))]
-fn full_response(
-    alloc: Global,
-    status: &[u8],
-    body: &[u8],
-    last: bool,
-) -> Result<Vec<u8>, NoMemory>
+fn full_response(alloc: Global, status: &[u8], body: &[u8], last: bool) -> Result<Vec<u8>, NoMemory>
     ensures { IfOk result (λ text. text.items ≡ response status.now body.now last) }
 {
     let mut text = Vec::new(alloc);

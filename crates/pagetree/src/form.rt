@@ -210,12 +210,7 @@ fn is_kind(kind: Kind, byte: u8) -> bool
 }
 
 /// The request that the parts of a body make, where each is within its limits and nothing is left.
-fn make_request<'a>(
-    title: &'a [u8],
-    digits: &[u8],
-    slug: &[u8],
-    rest: &[u8],
-) -> Option<Request<'a>>
+fn make_request<'a>(title: &'a [u8], digits: &[u8], slug: &[u8], rest: &[u8]) -> Option<Request<'a>>
     requires slug { IsTrue (list_all is_slug_byte slug.now) }
     requires title { IsTrue (list_all is_title_byte title.now) }
     ensures { option_map asked result ≡ request_of title.now digits.now slug.now rest.now }

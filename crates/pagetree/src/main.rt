@@ -18,9 +18,8 @@ mod words;
 use outside_world::{StreamSink, StreamSource, SystemClock};
 use run::run_command;
 use status::Status;
-use std::env;
-use std::io;
 use std::process::ExitCode;
+use std::{env, io};
 use words::Words;
 
 fn main(rt: HostRuntime) -> ExitCode {

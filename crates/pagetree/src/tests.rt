@@ -9,33 +9,36 @@ use std::process::Abort;
 use std::test::Fail;
 
 /// A request for a page below the root.
-const HOME: &[u8] = b"POST /api/pages HTTP/1.1\r\nAuthorization: Bearer abc\r\nContent-Length: 65\r\n\r\n\
+const HOME: &[u8] =
+    b"POST /api/pages HTTP/1.1\r\nAuthorization: Bearer abc\r\nContent-Length: 65\r\n\r\n\
     {\"content\":{\"blocks\":[],\"title\":\"Home\"},\"parent\":1,\"slug\":\"home\"}";
 
 /// Its answer in a new site.
-const CREATED: &[u8] = b"HTTP/1.1 200 OK\r\nContent-Length: 51\r\nContent-Type: application/json\r\n\r\n\
+const CREATED: &[u8] =
+    b"HTTP/1.1 200 OK\r\nContent-Length: 51\r\nContent-Type: application/json\r\n\r\n\
     {\"entry\":1,\"id\":2,\"path\":\"00010001\",\"url\":\"/home/\"}";
 
 /// Its answer where the slug is taken by page 2.
-const TAKEN: &[u8] = b"HTTP/1.1 409 Conflict\r\nContent-Length: 41\r\nContent-Type: application/json\r\n\r\n\
+const TAKEN: &[u8] =
+    b"HTTP/1.1 409 Conflict\r\nContent-Length: 41\r\nContent-Type: application/json\r\n\r\n\
     {\"name\":\"SlugTaken\",\"refused\":8,\"with\":2}";
 
 /// The answer where page 9, the parent, is not there.
-const NO_PAGE: &[u8] = b"HTTP/1.1 404 Not Found\r\nContent-Length: 38\r\nContent-Type: application/json\r\n\r\n\
+const NO_PAGE: &[u8] =
+    b"HTTP/1.1 404 Not Found\r\nContent-Length: 38\r\nContent-Type: application/json\r\n\r\n\
     {\"name\":\"NoPage\",\"refused\":1,\"with\":9}";
 
 /// The answer to what is not built.
-const NOT_BUILT: &[u8] = b"HTTP/1.1 501 Not Implemented\r\nContent-Length: 20\r\nContent-Type: application/json\r\n\
+const NOT_BUILT: &[u8] =
+    b"HTTP/1.1 501 Not Implemented\r\nContent-Length: 20\r\nContent-Type: application/json\r\n\
     Connection: close\r\n\r\n{\"error\":\"NotBuilt\"}";
 
 /// A request for a page, whose title is its slug.
 fn request_for(alloc: Global, parent: u32, slug: &str) -> Result<String, AllocError> {
-    let body = format!(
-        in alloc;
+    let body = format!(in alloc;
         "{{\"content\":{{\"blocks\":[],\"title\":\"{slug}\"}},\"parent\":{parent},\"slug\":\"{slug}\"}}"
     )?;
-    format!(
-        in alloc;
+    format!(in alloc;
         "POST /api/pages HTTP/1.1\r\nAuthorization: Bearer abc\r\nContent-Length: {}\r\n\r\n{body}",
         body.len()
     )
@@ -88,7 +91,11 @@ fn expect_session(
     let output = joined(alloc, output)?;
     for piece in [1, 7, 140, 100_000] {
         let pieces = [piece].to_vec(alloc)?;
-        let mut source = PiecesSource::new(input.as_slice().to_vec(alloc)?, pieces, Vec::new(alloc));
+        let mut source = PiecesSource::new(
+            input.as_slice().to_vec(alloc)?,
+            pieces,
+            Vec::new(alloc),
+        );
         let mut sink = MemorySink::new(alloc, Vec::new(alloc));
         let status = run_session(alloc, &mut source, &mut sink)?;
         assert_eq!(rt; status, end, "in pieces of {piece}");
@@ -101,9 +108,21 @@ fn expect_session(
 fn requests_are_answered_one_after_another(rt: HostRuntime) -> Result<(), Fail> {
     expect_session(&rt, rt.alloc(), &[], &[], Status::Done)?;
     expect_session(&rt, rt.alloc(), &[HOME], &[CREATED], Status::Done)?;
-    expect_session(&rt, rt.alloc(), &[HOME, HOME], &[CREATED, TAKEN], Status::Done)?;
+    expect_session(
+        &rt,
+        rt.alloc(),
+        &[HOME, HOME],
+        &[CREATED, TAKEN],
+        Status::Done,
+    )?;
     let lost = request_for(rt.alloc(), 9, "lost")?;
-    expect_session(&rt, rt.alloc(), &[HOME, lost.as_bytes(), HOME], &[CREATED, NO_PAGE, TAKEN], Status::Done)
+    expect_session(
+        &rt,
+        rt.alloc(),
+        &[HOME, lost.as_bytes(), HOME],
+        &[CREATED, NO_PAGE, TAKEN],
+        Status::Done,
+    )
 }
 
 #[test]
@@ -111,25 +130,49 @@ fn what_is_not_built_ends_the_session(rt: HostRuntime) -> Result<(), Fail> {
     let refused = Status::Refused(501);
     let get = b"GET / HTTP/1.1\r\n\r\n";
     expect_session(&rt, rt.alloc(), &[get], &[NOT_BUILT], refused)?;
-    expect_session(&rt, rt.alloc(), &[HOME, get, HOME], &[CREATED, NOT_BUILT], refused)?;
+    expect_session(
+        &rt,
+        rt.alloc(),
+        &[HOME, get, HOME],
+        &[CREATED, NOT_BUILT],
+        refused,
+    )?;
     // Page 2 is a page other than the root.
     let below = request_for(rt.alloc(), 2, "below")?;
-    expect_session(&rt, rt.alloc(), &[HOME, below.as_bytes()], &[CREATED, NOT_BUILT], refused)
+    expect_session(
+        &rt,
+        rt.alloc(),
+        &[HOME, below.as_bytes()],
+        &[CREATED, NOT_BUILT],
+        refused,
+    )
 }
 
 #[test]
 fn input_that_ends_in_a_request_is_cut(rt: HostRuntime) -> Result<(), Fail> {
     expect_session(&rt, rt.alloc(), &[&HOME[..139]], &[], Status::Cut(139))?;
     expect_session(&rt, rt.alloc(), &[&HOME[..1]], &[], Status::Cut(1))?;
-    expect_session(&rt, rt.alloc(), &[HOME, &HOME[..75]], &[CREATED], Status::Cut(75))
+    expect_session(
+        &rt,
+        rt.alloc(),
+        &[HOME, &HOME[..75]],
+        &[CREATED],
+        Status::Cut(75),
+    )
 }
 
 #[test]
 fn steps_go_on_in_base_36(rt: HostRuntime) -> Result<(), Fail> {
     let alloc = rt.alloc();
     for (count, last) in [
-        (35, b"{\"entry\":35,\"id\":36,\"path\":\"0001000Z\",\"url\":\"/c35/\"}"),
-        (36, b"{\"entry\":36,\"id\":37,\"path\":\"00010010\",\"url\":\"/c36/\"}"),
+        (
+            35,
+            b"{\"entry\":35,\"id\":36,\"path\":\"0001000Z\",\"url\":\"/c35/\"}",
+        ),
+        (
+            36,
+            b"{\"entry\":36,\"id\":37,\"path\":\"00010010\",\"url\":\"/c36/\"}",
+        ),
     ] {
         let mut source = MemorySource::new(creations(alloc, count)?, Vec::new(alloc));
         let mut sink = MemorySink::new(alloc, Vec::new(alloc));
@@ -142,7 +185,8 @@ fn steps_go_on_in_base_36(rt: HostRuntime) -> Result<(), Fail> {
 #[test]
 fn a_session_answers_a_thousand_requests(rt: HostRuntime) -> Result<(), Fail> {
     let alloc = rt.alloc();
-    let last = b"Connection: close\r\n\r\n{\"entry\":1000,\"id\":1001,\"path\":\"000100RS\",\"url\":\"/c1000/\"}";
+    let last =
+        b"Connection: close\r\n\r\n{\"entry\":1000,\"id\":1001,\"path\":\"000100RS\",\"url\":\"/c1000/\"}";
     let mut source = MemorySource::new(creations(alloc, 1001)?, Vec::new(alloc));
     let mut sink = MemorySink::new(alloc, Vec::new(alloc));
     assert_eq!(rt; run_session(alloc, &mut source, &mut sink)?, Status::Spent);
@@ -157,11 +201,17 @@ fn a_failed_read_or_write_ends_the_session(rt: HostRuntime) -> Result<(), Fail> 
     let pieces = [150, 10].to_vec(alloc)?;
     let mut source = PiecesSource::new(input, pieces, [2].to_vec(alloc)?);
     let mut sink = MemorySink::new(alloc, Vec::new(alloc));
-    assert_eq!(rt; run_session(alloc, &mut source, &mut sink)?, Status::ReadFault);
+    assert_eq!(rt;
+        run_session(alloc, &mut source, &mut sink)?,
+        Status::ReadFault
+    );
     assert_eq!(rt; sink.bytes(), CREATED);
     let mut source = MemorySource::new(joined(alloc, &[HOME, HOME])?, Vec::new(alloc));
     let mut sink = MemorySink::new(alloc, [2].to_vec(alloc)?);
-    assert_eq!(rt; run_session(alloc, &mut source, &mut sink)?, Status::WriteFault);
+    assert_eq!(rt;
+        run_session(alloc, &mut source, &mut sink)?,
+        Status::WriteFault
+    );
     assert_eq!(rt; sink.bytes(), CREATED);
     Ok(())
 }

@@ -1,6 +1,6 @@
 use Rattle.std.proofs.Common.{[], ◌++◌, take, drop, refl, sym, ap, ◌∙◌, arith}
 use Rattle.std.proofs.lemmas.List.{append-nil}
-use Rattle.pagetree.proofs.HeldLemmas.{held_in-same, held_in-more, read_more, read_none}
+use Rattle.pagetree.proofs.HeldLemmas.{held_in-same, held_in-more, read_more}
 use Rattle.pagetree.proofs.held.fill_room.Goals as goal
 
 pub returns-in-Ok-clause-bytes : goal.returns-in-Ok-clause-bytes

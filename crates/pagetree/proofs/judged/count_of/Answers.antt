@@ -1,4 +1,4 @@
-use Rattle.std.proofs.Common.{◌<◌, length, arith}
+use Rattle.std.proofs.Common.{arith}
 use Rattle.wire_model.proofs.LengthLemmas.{part_is_short}
 use Rattle.pagetree.proofs.judged.count_of.Goals as goal
 

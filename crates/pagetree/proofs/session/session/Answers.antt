@@ -1,8 +1,7 @@
-use Rattle.std.proofs.Common.{◌≡◌, ◌≤◌, ◌<◌, ◌+◌, ℕ, Some, List, inl, refl, sym, ap, ◌∙◌, arith, subst}
+use Rattle.std.proofs.Common.{inl, refl, arith}
 use Rattle.std.proofs.lemmas.List.{length-drop}
 use Rattle.wire_model.specs.Exchange.{nothing_left, unfinished, tally_of}
 use Rattle.pagetree.specs.declared.status.Status.TheVariants.{Done, Cut}
-use Rattle.pagetree.specs.Beginning.{start}
 use Rattle.pagetree.proofs.SoFarLemmas.{ends_at_read, ends_at_end, ends_spent, more_held, answered_more}
 use Rattle.pagetree.proofs.SessionLemmas.{first_so_far, is_ready, ends_at_once, ends_stopped, ends_refused}
 use Rattle.pagetree.proofs.session.session.Goals as goal

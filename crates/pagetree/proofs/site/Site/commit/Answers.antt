@@ -1,7 +1,6 @@
-use Rattle.std.proofs.Common.{◌≡◌, ◌+◌, refl, sym, ap, ◌∙◌}
+use Rattle.std.proofs.Common.{refl, ◌∙◌}
 use Rattle.pagetree.specs.Reading.{asked}
-use Rattle.pagetree.specs.Standing.{fresh_row}
-use Rattle.pagetree.proofs.CommitLemmas.{Committed, commit_fits, commit_creates}
+use Rattle.pagetree.proofs.CommitLemmas.{commit_fits, commit_creates}
 use Rattle.pagetree.proofs.site.Site.commit.Goals as goal
 
 pub insert_reserved-requires-clause-new : goal.insert_reserved-requires-clause-new

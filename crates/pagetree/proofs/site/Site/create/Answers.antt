@@ -1,4 +1,4 @@
-use Rattle.std.proofs.Common.{refl, ◌∙◌}
+use Rattle.std.proofs.Common.{refl}
 use Rattle.pagetree.specs.Reading.{asked}
 use Rattle.pagetree.proofs.SiteLemmas.{can_commit, stands_too}
 use Rattle.pagetree.proofs.site.Site.create.Goals as goal

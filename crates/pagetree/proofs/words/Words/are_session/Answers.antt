@@ -1,4 +1,4 @@
-use Rattle.std.proofs.Common.{codes, ◌≡◌, sym}
+use Rattle.std.proofs.Common.{codes}
 use Rattle.pagetree.proofs.WordLemmas.{one_word}
 use Rattle.pagetree.proofs.words.Words.are_session.Goals as goal
 

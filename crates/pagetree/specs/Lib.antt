@@ -6,3 +6,4 @@ pub mod Judging
 pub mod Exchanging
 pub mod Beginning
 pub mod Ending
+pub mod Codes

@@ -1,4 +1,7 @@
 //! How the program ends.
+ghost use Rattle.std.specs.Prelude.{◌≡◌};
+ghost use Rattle.pagetree.specs.Codes.{code_of};
+
 use std::fmt;
 
 /// How a run of a command ended.
@@ -24,7 +27,9 @@ pub enum Status {
 
 impl Status {
     /// The exit code of the program: 0 where all was done.
-    pub fn code(&self) -> u8 {
+    pub fn code(&self) -> u8
+        ensures { result ≡ code_of self.now }
+    {
         match self {
             Status::Done => 0,
             Status::Usage => 2,

@@ -25,11 +25,14 @@ comes_before-self (x ∷ path) =
     let same : nat_eq x x ≡ true = grind (arith, nat_tests) in rw same (comes_before-self path)
 
 -- one step of two paths, each before the next
-before_step : (x y z : ℕ) (p q r : Bool) → (p ≡ true → q ≡ true → r ≡ true) → cond (nat_eq x y) p (nat_lt x y) ≡ true → cond (nat_eq y z) q (nat_lt y z) ≡ true → cond (nat_eq x z) r (nat_lt x z) ≡ true
+before_step : (x y z : ℕ) (p q r : Bool) → (p ≡ true → q ≡ true → r ≡ true) →
+    cond (nat_eq x y) p (nat_lt x y) ≡ true → cond (nat_eq y z) q (nat_lt y z) ≡ true →
+    cond (nat_eq x z) r (nat_lt x z) ≡ true
 before_step x y z p q r h a b = grind (arith, nat_tests)
 
 -- what comes before a path comes before those that the path comes before
-pub comes_before-trans : (a b c : List ℕ) → comes_before a b ≡ true → comes_before b c ≡ true → comes_before a c ≡ true
+pub comes_before-trans : (a b c : List ℕ) → comes_before a b ≡ true → comes_before b c ≡ true →
+    comes_before a c ≡ true
 comes_before-trans [] [] c h k = cc
 comes_before-trans [] (y ∷ b) [] h k = cc
 comes_before-trans [] (y ∷ b) (z ∷ c) h k = refl
@@ -46,7 +49,8 @@ comes_before-not_back a b h = by (comes_before b a) refl
     by true e = let self = comes_before-trans a b a h e in let never = comes_before-self a in absurd cc
 
 -- one step of two different paths
-either_step : (x y : ℕ) (p q : Bool) → (nat_eq x y ≡ true → p ≡ false → q ≡ true) → cond (nat_eq x y) p (nat_lt x y) ≡ false → cond (nat_eq y x) q (nat_lt y x) ≡ true
+either_step : (x y : ℕ) (p q : Bool) → (nat_eq x y ≡ true → p ≡ false → q ≡ true) →
+    cond (nat_eq x y) p (nat_lt x y) ≡ false → cond (nat_eq y x) q (nat_lt y x) ≡ true
 either_step x y p q h a = grind (arith, nat_tests)
 
 -- of two different paths one comes before the other
@@ -55,7 +59,8 @@ comes_before-other [] [] differ h = absurd (differ refl)
 comes_before-other [] (y ∷ b) differ h = cc
 comes_before-other (x ∷ a) [] differ h = refl
 comes_before-other (x ∷ a) (y ∷ b) differ h =
-    either_step x y _ _ (λ same rest. comes_before-other a b (λ e. differ (let one : x ≡ y = grind (arith, nat_tests) in cc)) rest) h
+    either_step x y _ _ (λ same rest. comes_before-other a b (λ e. differ (let one : x ≡ y =
+    grind (arith, nat_tests) in cc)) rest) h
 
 -- a path begins with itself
 pub begins-self : (path : List ℕ) → begins path path ≡ true
@@ -64,11 +69,14 @@ begins-self (x ∷ path) =
     let same : nat_eq x x ≡ true = grind (arith, nat_tests) in rw (same, begins-self path) refl
 
 -- one step of paths between two that begin alike
-between_step : (x y z : ℕ) (p q r s : Bool) → (p ≡ true → q ≡ true → r ≡ true → s ≡ true) → cond (nat_eq x y) p (nat_lt x y) ≡ true → cond (nat_eq y z) q (nat_lt y z) ≡ true → nat_eq x z && r ≡ true → nat_eq x y && s ≡ true
+between_step : (x y z : ℕ) (p q r s : Bool) → (p ≡ true → q ≡ true → r ≡ true → s ≡ true) →
+    cond (nat_eq x y) p (nat_lt x y) ≡ true → cond (nat_eq y z) q (nat_lt y z) ≡ true →
+    nat_eq x z && r ≡ true → nat_eq x y && s ≡ true
 between_step x y z p q r s h a b c = grind (arith, nat_tests)
 
 -- what comes between a path and one below it is below it too
-pub begins-between : (path a b : List ℕ) → comes_before path a ≡ true → comes_before a b ≡ true → begins path b ≡ true → begins path a ≡ true
+pub begins-between : (path a b : List ℕ) → comes_before path a ≡ true → comes_before a b ≡ true →
+    begins path b ≡ true → begins path a ≡ true
 begins-between [] a b h k l = refl
 begins-between (x ∷ path) [] b h k l = cc
 begins-between (x ∷ path) (y ∷ a) [] h k l = cc
@@ -90,19 +98,24 @@ begins-BeginsWith path whole h = rw (← h.1) (by path h.0)
   where
     by : (path rest : List ℕ) → begins path (path ++ rest) ≡ true
     by [] rest = refl
-    by (x ∷ path) rest = let same : nat_eq x x ≡ true = grind (arith, nat_tests) in rw (same, by path rest) refl
+    by (x ∷ path) rest = let same : nat_eq x x ≡ true = grind (arith, nat_tests) in
+        rw (same, by path rest) refl
 
 -- a comparison that answers less says that the first comes before the second
 pub is_lt-path_cmp : (a b : List ℕ) (o : Ordering) → o ≡ slice_cmp nat_cmp a b → is_lt o ≡ comes_before a b
-is_lt-path_cmp a b o e = same_from_slice_cmp nat_cmp is_lt comes_before refl (λ y ys. refl) (λ x xs. refl) step a b o e
+is_lt-path_cmp a b o e =
+    same_from_slice_cmp nat_cmp is_lt comes_before refl (λ y ys. refl) (λ x xs. refl) step a b o e
   where
-    step : (x y : ℕ) (xs ys : List ℕ) (o : Ordering) → o ≡ nat_cmp x y → MatchOrdering o (comes_before (x ∷ xs) (y ∷ ys) ≡ true) (comes_before (x ∷ xs) (y ∷ ys) ≡ comes_before xs ys) (comes_before (x ∷ xs) (y ∷ ys) ≡ false)
+    step : (x y : ℕ) (xs ys : List ℕ) (o : Ordering) → o ≡ nat_cmp x y →
+        MatchOrdering o (comes_before (x ∷ xs) (y ∷ ys) ≡ true) (comes_before (x ∷ xs) (y ∷ ys) ≡
+        comes_before xs ys) (comes_before (x ∷ xs) (y ∷ ys) ≡ false)
     step x y xs ys Less e = grind (arith, nat_tests)
     step x y xs ys Equal e = grind (arith, nat_tests)
     step x y xs ys Greater e = grind (arith, nat_tests)
 
 -- a test of whether one path begins with another answers as `begins` does
-pub begins-from_test : (path whole : List ℕ) (r : Bool) → (IsTrue r ↔ BeginsWith path whole) → r ≡ begins path whole
+pub begins-from_test : (path whole : List ℕ) (r : Bool) → (IsTrue r ↔ BeginsWith path whole) →
+    r ≡ begins path whole
 begins-from_test path whole true h = sym (begins-BeginsWith path whole (h.0 true_is))
 begins-from_test path whole false h = by (begins path whole) refl
   where

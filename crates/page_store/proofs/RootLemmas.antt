@@ -29,7 +29,16 @@ root_pages = record {
 
 -- the root is seen as the row of a new tree
 seen_root : (page : StoredRow) → IsRootPage page → seen page ∷ [] ≡ root_rows
-seen_root page is = rw (is.id_is, is.no_parent, is.path_is, steps_of-path_text (1 ∷ []) root_is_path.steps, is.url_is, is.no_slug, is.no_kids, is.body_is) refl
+seen_root page is = rw (
+  is.id_is,
+  is.no_parent,
+  is.path_is,
+  steps_of-path_text (1 ∷ []) root_is_path.steps,
+  is.url_is,
+  is.no_slug,
+  is.no_kids,
+  is.body_is,
+) refl
 
 -- the text of the root's path is kept with its depth
 stored_root : (page : StoredRow) → IsRootPage page → IsStored page
@@ -52,7 +61,9 @@ root_tests a id is = by (nat_eq a id) (nat_eq id 1) refl refl
 pub root_kept : (page : StoredRow) → IsRootPage page → IsKept ((1, page) ∷ []) (1 ∷ []) [] root_rows
 root_kept page is = record {
   ids = refl;
-  found = λ id. subst (λ (rows : List Page). row_with id rows ≡ option_map seen (cond (nat_eq id 1) (Some page) None)) (seen_root page is) (rw (root_tests page.row.id id is.id_is) (by (nat_eq id 1)));
+  found = λ id. subst (λ (rows : List Page). row_with id rows ≡ option_map seen (cond (nat_eq id 1)
+      (Some page) None)) (seen_root page is) (rw (root_tests page.row.id id is.id_is) (by (nat_eq id
+      1)));
   texts = λ id. text (nat_eq id 1);
   named = λ parent slug. refl;
   are_pages = root_pages;

@@ -11,23 +11,28 @@ use Rattle.page_store.proofs.PathOrder.{comes_before-self, comes_before-not_back
 use Rattle.page_store.proofs.RangeLemmas.{All-at}
 
 -- what holds of each element of a window holds of one at a place in it
-pub All-window : {X : Type 0} (P : X → Type 0) (xs : List X) (p m j : ℕ) (x : X) → AllByRecursion P (take m (drop p xs)) → slice_get xs j ≡ Some x → p ≤ j → j < p + m → P x
+pub All-window : {X : Type 0} (P : X → Type 0) (xs : List X) (p m j : ℕ) (x : X) →
+    AllByRecursion P (take m (drop p xs)) → slice_get xs j ≡ Some x → p ≤ j → j < p + m → P x
 All-window P [] p m j x all h low high = cc
 All-window P (y ∷ ys) zero zero j x all h low high = absurd (omega arith)
 All-window P (y ∷ ys) zero (suc m) zero x all h low high = let one : y ≡ x = cc in subst P one all.0
-All-window P (y ∷ ys) zero (suc m) (suc j) x all h low high = All-window P ys zero m j x all.1 h (omega arith) (omega arith)
+All-window P (y ∷ ys) zero (suc m) (suc j) x all h low high =
+    All-window P ys zero m j x all.1 h (omega arith) (omega arith)
 All-window P (y ∷ ys) (suc p) m zero x all h low high = absurd (omega arith)
-All-window P (y ∷ ys) (suc p) m (suc j) x all h low high = All-window P ys p m j x all h (omega arith) (omega arith)
+All-window P (y ∷ ys) (suc p) m (suc j) x all h low high =
+    All-window P ys p m j x all h (omega arith) (omega arith)
 
 -- and of those from a place on
-pub All-behind : {X : Type 0} (P : X → Type 0) (xs : List X) (p j : ℕ) (x : X) → AllByRecursion P (drop p xs) → slice_get xs j ≡ Some x → p ≤ j → P x
+pub All-behind : {X : Type 0} (P : X → Type 0) (xs : List X) (p j : ℕ) (x : X) →
+    AllByRecursion P (drop p xs) → slice_get xs j ≡ Some x → p ≤ j → P x
 All-behind P [] p j x all h low = cc
 All-behind P (y ∷ ys) zero j x all h low = All-at P j (y ∷ ys) x all h
 All-behind P (y ∷ ys) (suc p) zero x all h low = absurd (omega arith)
 All-behind P (y ∷ ys) (suc p) (suc j) x all h low = All-behind P ys p j x all h (omega arith)
 
 -- what holds of each element holds of the first ones
-pub All-take : {X : Type 0} (P : X → Type 0) (n : ℕ) (xs : List X) → AllByRecursion P xs → AllByRecursion P (take n xs)
+pub All-take : {X : Type 0} (P : X → Type 0) (n : ℕ) (xs : List X) → AllByRecursion P xs →
+    AllByRecursion P (take n xs)
 All-take P zero xs all = tt
 All-take P (suc n) [] all = tt
 All-take P (suc n) (x ∷ xs) all = (all.0, All-take P n xs all.1)
@@ -39,24 +44,33 @@ there_is (x ∷ xs) zero h = (x, refl)
 there_is (x ∷ xs) (suc n) h = there_is xs n (omega arith)
 
 -- what is found stands at a place
-pub found_at : {X : Type 0} (test : X → Bool) (xs : List X) (x : X) → find test xs ≡ Some x → (j : ℕ) × (slice_get xs j ≡ Some x)
+pub found_at : {X : Type 0} (test : X → Bool) (xs : List X) (x : X) → find test xs ≡ Some x →
+    (j : ℕ) × (slice_get xs j ≡ Some x)
 found_at test [] x h = absurd cc
 found_at test (y ∷ xs) x h = by (test y) h (found_at test xs x)
   where
-    by : (t : Bool) → cond t (Some y) (find test xs) ≡ Some x → (find test xs ≡ Some x → (j : ℕ) × (slice_get xs j ≡ Some x)) → (j : ℕ) × (slice_get (y ∷ xs) j ≡ Some x)
+    by : (t : Bool) → cond t (Some y) (find test xs) ≡ Some x → (find test xs ≡ Some x →
+        (j : ℕ) × (slice_get xs j ≡ Some x)) → (j : ℕ) × (slice_get (y ∷ xs) j ≡ Some x)
     by true h more = (0, h)
     by false h more = let found = more h in (suc found.0, found.1)
 
 -- of two places the row at the first comes before the row at the second
-pub before_at : (rows : List Page) (i j : ℕ) (a b : Page) → EachPair IsBefore rows → slice_get rows i ≡ Some a → slice_get rows j ≡ Some b → i < j → comes_before a.path b.path ≡ true
+pub before_at : (rows : List Page) (i j : ℕ) (a b : Page) → EachPair IsBefore rows →
+    slice_get rows i ≡ Some a → slice_get rows j ≡ Some b → i < j →
+    comes_before a.path b.path ≡ true
 before_at [] i j a b order at there h = cc
 before_at (row ∷ rows) i zero a b order at there h = absurd (omega arith)
 before_at (row ∷ rows) zero (suc j) a b order at there h =
-    let one : row ≡ a = cc in subst (λ (r : Page). comes_before r.path b.path ≡ true) one (All-at (IsBefore row) j rows b order.0 there)
-before_at (row ∷ rows) (suc i) (suc j) a b order at there h = before_at rows i j a b order.1 at there (omega arith)
+    let one : row ≡ a = cc in
+    subst (λ (r : Page). comes_before r.path b.path ≡ true) one (All-at (IsBefore row) j rows b
+    order.0 there)
+before_at (row ∷ rows) (suc i) (suc j) a b order at there h =
+    before_at rows i j a b order.1 at there (omega arith)
 
 -- and a row that comes before another stands before it
-pub place_before : (rows : List Page) (i j : ℕ) (a b : Page) → EachPair IsBefore rows → slice_get rows i ≡ Some a → slice_get rows j ≡ Some b → comes_before a.path b.path ≡ true → i < j
+pub place_before : (rows : List Page) (i j : ℕ) (a b : Page) → EachPair IsBefore rows →
+    slice_get rows i ≡ Some a → slice_get rows j ≡ Some b → comes_before a.path b.path ≡ true →
+    i < j
 place_before rows i j a b order at there before = by (nat_lt i j) (nat_lt j i) refl refl
   where
     by : (t u : Bool) → nat_lt i j ≡ t → nat_lt j i ≡ u → i < j
@@ -69,18 +83,21 @@ place_before rows i j a b order at there before = by (nat_lt i j) (nat_lt j i) r
         let one : Some a ≡ Some b = sym at ∙ ap (λ k. slice_get rows k) same ∙ there in
         let rows_same : a ≡ b = cc in
         let never = comes_before-self b.path in
-        let self : comes_before b.path b.path ≡ true = subst (λ (r : Page). comes_before r.path b.path ≡ true) rows_same before in
+        let self : comes_before b.path b.path ≡ true =
+        subst (λ (r : Page). comes_before r.path b.path ≡ true) rows_same before in
         absurd cc
 
 -- paths behind one beginning compare as what follows it
 pub comes_before-behind : (front a b : List ℕ) → comes_before (front ++ a) (front ++ b) ≡ comes_before a b
 comes_before-behind [] a b = refl
-comes_before-behind (x ∷ front) a b = let same : nat_eq x x ≡ true = grind (arith, nat_tests) in rw same (comes_before-behind front a b)
+comes_before-behind (x ∷ front) a b = let same : nat_eq x x ≡ true = grind (arith, nat_tests) in
+    rw same (comes_before-behind front a b)
 
 -- and begin as what follows it
 pub begins-behind : (front a b : List ℕ) → begins (front ++ a) (front ++ b) ≡ begins a b
 begins-behind [] a b = refl
-begins-behind (x ∷ front) a b = let same : nat_eq x x ≡ true = grind (arith, nat_tests) in rw (same, begins-behind front a b) refl
+begins-behind (x ∷ front) a b = let same : nat_eq x x ≡ true = grind (arith, nat_tests) in
+    rw (same, begins-behind front a b) refl
 
 -- the path above a longer one
 pub above-cons : (x y : ℕ) (path : List ℕ) → above (x ∷ y ∷ path) ≡ x ∷ above (y ∷ path)
@@ -90,10 +107,12 @@ above-cons x y path =
     rw (long, short) refl
 
 -- the path above one that goes on behind a beginning
-pub above-append : (front : List ℕ) (x : ℕ) (path : List ℕ) → above (front ++ x ∷ path) ≡ front ++ above (x ∷ path)
+pub above-append : (front : List ℕ) (x : ℕ) (path : List ℕ) →
+    above (front ++ x ∷ path) ≡ front ++ above (x ∷ path)
 above-append [] x path = refl
 above-append (y ∷ []) x path = above-cons y x path
-above-append (y ∷ z ∷ front) x path = above-cons y z (front ++ x ∷ path) ∙ ap (λ rest. y ∷ rest) (above-append (z ∷ front) x path)
+above-append (y ∷ z ∷ front) x path = above-cons y z (front ++
+    x ∷ path) ∙ ap (λ rest. y ∷ rest) (above-append (z ∷ front) x path)
 
 -- the path above one of one step is empty
 pub above-one : (x : ℕ) → above (x ∷ []) ≡ []
@@ -116,15 +135,25 @@ above_before (x ∷ y ∷ path) some =
     rw (above-cons x y path) (rw same (above_before (y ∷ path) (omega arith)))
 
 -- one step of a path before another, neither below the other
-apart_step : (s a : ℕ) (p : Bool) → cond (nat_eq s a) p (nat_lt s a) ≡ true → nat_eq s a && true ≡ false → (nat_lt s a ≡ true) × (nat_eq s a ≡ false)
+apart_step : (s a : ℕ) (p : Bool) → cond (nat_eq s a) p (nat_lt s a) ≡ true →
+    nat_eq s a && true ≡ false → (nat_lt s a ≡ true) × (nat_eq s a ≡ false)
 apart_step s a p before apart = (grind (arith, nat_tests), grind (arith, nat_tests))
 
 -- A path that comes before one further down, and is not above it, comes before the path above that one too.
-pub before_above : (front : List ℕ) (s a b : ℕ) (more : List ℕ) → comes_before (front ++ s ∷ []) (front ++ a ∷ b ∷ more) ≡ true → begins (front ++ s ∷ []) (front ++ a ∷ b ∷ more) ≡ false
-    → (comes_before (front ++ s ∷ []) (above (front ++ a ∷ b ∷ more)) ≡ true) × (begins (front ++ s ∷ []) (above (front ++ a ∷ b ∷ more)) ≡ false)
+pub before_above : (front : List ℕ) (s a b : ℕ) (more : List ℕ) →
+    comes_before (front ++ s ∷ []) (front ++ a ∷ b ∷ more) ≡ true →
+    begins (front ++ s ∷ []) (front ++ a ∷ b ∷ more) ≡ false
+    → (comes_before (front ++ s ∷ []) (above (front ++ a ∷ b ∷ more)) ≡ true)
+    × (begins (front ++ s ∷ []) (above (front ++ a ∷ b ∷ more)) ≡ false)
 before_above front s a b more before apart =
-    let steps = apart_step s a _ (sym (comes_before-behind front (s ∷ []) (a ∷ b ∷ more)) ∙ before) (sym (begins-behind front (s ∷ []) (a ∷ b ∷ more)) ∙ apart) in
-    rw (above-append front a (b ∷ more), above-cons a b more, comes_before-behind front (s ∷ []) (a ∷ above (b ∷ more)), begins-behind front (s ∷ []) (a ∷ above (b ∷ more)))
+    let steps = apart_step s a _ (sym (comes_before-behind front (s ∷ []) (a ∷ b ∷ more)) ∙ before)
+    (sym (begins-behind front (s ∷ []) (a ∷ b ∷ more)) ∙ apart) in
+    rw (
+      above-append front a (b ∷ more),
+      above-cons a b more,
+      comes_before-behind front (s ∷ []) (a ∷ above (b ∷ more)),
+      begins-behind front (s ∷ []) (a ∷ above (b ∷ more)),
+    )
     (rw (steps.1, steps.0) (refl, refl))
 
 -- a path that begins with another of its length is that one

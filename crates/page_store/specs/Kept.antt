@@ -44,11 +44,13 @@ pub record IsStored (stored : StoredRow) : Type 0 where
   pub depth_is : stored.row.depth ≡ length (steps_of stored.row.path)
 
 -- The rows by id, the ids in their order and the kids by slug stand for these rows.
-pub record IsKept (stored : List (ℕ × StoredRow)) (order : List ℕ) (kids : List (KidKey × ℕ)) (pages : List Page) : Type 0 where
+pub record IsKept (stored : List (ℕ × StoredRow)) (order : List ℕ) (kids : List (KidKey
+    × ℕ)) (pages : List Page) : Type 0 where
   pub ids : map (λ row. row.id) pages ≡ order
   pub found : (id : ℕ) → row_with id pages ≡ option_map seen (lookup (nat_eq id) stored)
   pub texts : (id : ℕ) → IfSome (lookup (nat_eq id) stored) IsStored
-  pub named : (parent : ℕ) (slug : List ℕ) → lookup (key_eq (kid_key parent slug)) kids ≡ kid_named parent slug pages
+  pub named : (parent : ℕ) (slug : List ℕ) →
+      lookup (key_eq (kid_key parent slug)) kids ≡ kid_named parent slug pages
   pub are_pages : ArePages pages
 
 -- what is kept of the root of a new tree

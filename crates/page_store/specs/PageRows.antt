@@ -1,4 +1,5 @@
--- What the store of rows is seen as: the rows of a tree in path order, as django-treebeard keeps them, with URLs.
+-- What the store of rows is seen as: the rows of a tree in path order, as django-treebeard keeps
+-- them, with URLs.
 use Rattle.std.specs.Prelude.{◌≡◌, ℕ, Option, Some, None, IsSome, ◌-◌, ◌+◌, ◌≤◌, List, [], ◌∷◌}
 use Rattle.std.specs.Prelude.{length, take, drop, find, slice_get}
 use Rattle.std.specs.Option.{option_map, IfSome}
@@ -52,9 +53,19 @@ parent_id path pages = option_map (λ row. row.id) (find (λ row. bytes_eq row.p
 -- the rows of a tree that is its root alone
 abbrev pub root_rows : List (Row Body)
 root_rows =
-    record { id = 1; parent = None; path = 1 ∷ []; url = SLASH ∷ []; slug = []; numchild = 0; body = root_body } ∷ []
+    record {
+      id = 1;
+      parent = None;
+      path = 1 ∷ [];
+      url = SLASH ∷ [];
+      slug = [];
+      numchild = 0;
+      body =
+          root_body;
+    } ∷ []
 
--- A page and its place in path order, with the n rows of its subtree: they are the rows that begin with its path.
+-- A page and its place in path order, with the n rows of its subtree: they are the rows that begin
+-- with its path.
 pub record IsRange (pages : List (Row Body)) (row : Row Body) (place n : ℕ) : Type 0 where
   pub page : slice_get pages place ≡ Some row
   pub within : place + n ≤ length pages
@@ -62,8 +73,8 @@ pub record IsRange (pages : List (Row Body)) (row : Row Body) (place n : ℕ) : 
   pub before : AllByRecursion (λ other. BeginsWith row.path other.path → ⊥) (take place pages)
   pub after : AllByRecursion (λ other. BeginsWith row.path other.path → ⊥) (drop (place + n) pages)
 
--- A row that may be put in: its id and its path are new, its path is a path's text with its depth beside it, it has no
--- children, its parent is there, and no child of its parent has its slug.
+-- A row that may be put in: its id and its path are new, its path is a path's text with its depth
+-- beside it, it has no children, its parent is there, and no child of its parent has its slug.
 pub record IsNewRow (pages : List (Row Body)) (row : PageRow) : Type 0 where
   pub path_is : IsPathText row.path
   pub depth_is : row.depth ≡ length (steps_of row.path)
@@ -71,4 +82,5 @@ pub record IsNewRow (pages : List (Row Body)) (row : PageRow) : Type 0 where
   pub new_id : row_with row.id pages ≡ None
   pub new_path : AllByRecursion (λ other. other.path ≡ steps_of row.path → ⊥) pages
   pub has_parent : IsSome (parent_id (steps_of row.path) pages)
-  pub free_slug : IfSome (parent_id (steps_of row.path) pages) (λ parent. kid_named parent row.slug pages ≡ None)
+  pub free_slug : IfSome (parent_id (steps_of row.path) pages) (λ parent. kid_named parent row.slug
+      pages ≡ None)

@@ -1,5 +1,5 @@
--- What holds of the rows of a store: they are the rows of a tree in depth-first order, each with its parent and the
--- number of its kids.
+-- What holds of the rows of a store: they are the rows of a tree in depth-first order, each with
+-- its parent and the number of its kids.
 use Rattle.std.specs.Prelude.{◌≡◌, true, None, IsSome, List, [], ◌∷◌, length}
 use Rattle.std.specs.List.{AllByRecursion}
 use Rattle.page_tree.specs.Rows.{Row, comes_before, kids_in}
@@ -41,9 +41,9 @@ abbrev pub StartsAtRoot : List Page → Type 0
 StartsAtRoot [] = ⊥
 StartsAtRoot (row ∷ rows) = IsRootRow row × AllByRecursion (λ later. IsSome later.parent) rows
 
--- The rows of a tree of pages: the root first, each path once and in depth-first order, each id once and in its range; a page's parent
--- is the page whose path is its own without the last step; a page's child count is the number of its kids; and no two
--- kids of a page have one slug.
+-- The rows of a tree of pages: the root first, each path once and in depth-first order, each id
+-- once and in its range; a page's parent is the page whose path is its own without the last step; a
+-- page's child count is the number of its kids; and no two kids of a page have one slug.
 pub record ArePages (pages : List Page) : Type 0 where
   pub root : StartsAtRoot pages
   pub ids_fit : AllByRecursion (λ row. IsPageId row.id) pages

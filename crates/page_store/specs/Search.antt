@@ -18,7 +18,8 @@ leading test (x ∷ xs) = if test x then leading test xs + 1 else 0
 -- where one element does not pass the test, no later one does
 abbrev pub PassFirst : {X : Type 0} → (X → Bool) → List X → Type 0
 PassFirst test [] = Unit {0}
-PassFirst test (x ∷ xs) = (test x ≡ false → AllByRecursion (λ later. test later ≡ false) xs) × PassFirst test xs
+PassFirst test (x ∷ xs) = (test x ≡ false →
+    AllByRecursion (λ later. test later ≡ false) xs) × PassFirst test xs
 
 -- whether the second path begins with the first
 abbrev pub begins : List ℕ → List ℕ → Bool

@@ -21,15 +21,21 @@ use Rattle.pagetree.proofs.CreationLemmas.{new_row_fits, rows_with_new, reply_of
 
 -- The site after a commit, by its fields.
 pub record Committed (site after : Site) (request : Request) (url : List ℕ) (moment : ℕ) : Type 0 where
-  pub pages : after.rows.pages ≡ with_row (seen_row (fresh_row site.next_page site.next_revision (site.last_step + 1) request.slug) (parent_id (steps_of (fresh_row site.next_page site.next_revision (site.last_step + 1) request.slug).path) site.rows.pages) url) site.rows.pages
-  pub revisions : after.revisions.items ≡ site.revisions.items ++ plain_revision site.next_revision site.next_page CALLER (max site.time moment) (content_of request) ∷ []
+  pub pages : after.rows.pages ≡ with_row (seen_row (fresh_row site.next_page site.next_revision
+      (site.last_step + 1) request.slug) (parent_id (steps_of (fresh_row site.next_page
+      site.next_revision (site.last_step + 1) request.slug).path) site.rows.pages) url)
+      site.rows.pages
+  pub revisions : after.revisions.items ≡ site.revisions.items ++
+      plain_revision site.next_revision site.next_page CALLER (max site.time moment) (content_of
+      request) ∷ []
   pub time : after.time ≡ max site.time moment
   pub next_page : after.next_page ≡ site.next_page + 1
   pub next_revision : after.next_revision ≡ site.next_revision + 1
   pub last_step : after.last_step ≡ site.last_step + 1
   pub number : after.number ≡ site.number + 1
 
-module _ (site : Site) (tally : Tally World) (request : Request) (url : List ℕ) (can : CanCommit site tally request url) where
+module _ (site : Site) (tally : Tally World) (request : Request) (url : List ℕ) (can : CanCommit
+    site tally request url) where
   -- the site's last step is that of the pages below the root
   last_is : site.last_step ≡ last_step 0 can.ready.young.kids
   last_is = can.ready.stands.last_step ∙ ap (λ tree. last_step 0 (kids_of 1 tree)) can.ready.young.tree
@@ -52,7 +58,9 @@ module _ (site : Site) (tally : Tally World) (request : Request) (url : List ℕ
   -- the ids of the pages below the root are below the new one
   ids_below : AllIds (λ i. i < site.next_page) can.ready.young.kids
   ids_below =
-      AllIds-weaker (λ i. i < tally.world.part.next_page) (λ i. i < site.next_page) can.ready.young.kids (λ i less. let same = can.ready.stands.next_page in omega arith) can.ready.young.below
+      AllIds-weaker (λ i. i < tally.world.part.next_page) (λ i. i < site.next_page)
+      can.ready.young.kids (λ i less. let same = can.ready.stands.next_page in
+      omega arith) can.ready.young.below
 
   -- no page below the root has the slug
   slug_free : kid_with_slug request.slug can.ready.young.kids ≡ None
@@ -63,18 +71,28 @@ module _ (site : Site) (tally : Tally World) (request : Request) (url : List ℕ
   rows_are = can.ready.stands.pages ∙ ap rows_of can.ready.young.tree
 
   -- the new row may be put in
-  pub commit_fits : IsNewRow site.rows.pages (fresh_row site.next_page site.next_revision (site.last_step + 1) request.slug)
+  pub commit_fits : IsNewRow site.rows.pages (fresh_row site.next_page site.next_revision
+      (site.last_step + 1) request.slug)
   commit_fits =
-      rw rows_are (new_row_fits can.ready.young.root can.ready.young.kids site.next_page (site.last_step + 1) site.next_revision request.slug can.ready.young.apart ids_below can.ready.young.rising (ap (λ n. n + 1) last_is) next_is_step id_late slug_free)
+      rw rows_are (new_row_fits can.ready.young.root can.ready.young.kids site.next_page
+      (site.last_step + 1) site.next_revision request.slug can.ready.young.apart ids_below
+      can.ready.young.rising (ap (λ n. n + 1) last_is) next_is_step id_late slug_free)
 
   -- the new page among those below the root
   abbrev more_kids : Forest Body
-  more_kids = put_last 0 (grown site.next_page 1 request.slug (fresh_body CALLER site.next_revision) bare bare) can.ready.young.kids
+  more_kids = put_last 0 (grown site.next_page 1 request.slug (fresh_body CALLER site.next_revision)
+      bare bare) can.ready.young.kids
 
   -- the tree of the world after the creation
-  tree_after : (moment : ℕ) → (after_creation tally request moment).world.part.tree ≡ rooted can.ready.young.root more_kids
+  tree_after : (moment : ℕ) →
+      (after_creation tally request moment).world.part.tree ≡ rooted can.ready.young.root more_kids
   tree_after moment =
-      rw (can.at_root, can.ready.young.tree, ← can.ready.stands.next_page, ← can.ready.stands.next_revision) refl
+      rw (
+        can.at_root,
+        can.ready.young.tree,
+        ← can.ready.stands.next_page,
+        ← can.ready.stands.next_revision,
+      ) refl
 
   -- the world after the creation is of a session
   young_after : (moment : ℕ) → IsYoung (after_creation tally request moment)
@@ -88,8 +106,12 @@ module _ (site : Site) (tally : Tally World) (request : Request) (url : List ℕ
         root = young.root;
         kids = more_kids;
         tree = tree_after moment;
-        apart = AllIds-put_last (λ id. id ≡ 1 → ⊥) 0 site.next_page 1 request.slug node_body young.kids (λ is. omega arith) young.apart;
-        below = AllIds-put_last (λ id. id < tally.world.part.next_page + 1) 0 site.next_page 1 request.slug node_body young.kids (omega arith) (AllIds-weaker (λ i. i < tally.world.part.next_page) (λ i. i < tally.world.part.next_page + 1) young.kids (λ i less. omega arith) young.below);
+        apart = AllIds-put_last (λ id. id ≡ 1 →
+            ⊥) 0 site.next_page 1 request.slug node_body young.kids (λ is. omega arith) young.apart;
+        below = AllIds-put_last (λ id. id < tally.world.part.next_page + 1) 0 site.next_page 1
+            request.slug node_body young.kids (omega arith) (AllIds-weaker (λ i. i <
+            tally.world.part.next_page) (λ i. i < tally.world.part.next_page + 1) young.kids (λ i
+            less. omega arith) young.below);
         rising = AreRising-put_last 0 site.next_page 1 request.slug node_body young.kids young.rising;
         steps = let steps = young.steps in omega arith;
         next_page = let next = young.next_page in omega arith;
@@ -97,19 +119,28 @@ module _ (site : Site) (tally : Tally World) (request : Request) (url : List ℕ
       }
 
   -- the rows after the commit are those of the tree after the creation
-  pages_after : (after : Site) (moment : ℕ) → Committed site after request url moment → after.rows.pages ≡ rows_of (after_creation tally request moment).world.part.tree
+  pages_after : (after : Site) (moment : ℕ) → Committed site after request url moment →
+      after.rows.pages ≡ rows_of (after_creation tally request moment).world.part.tree
   pages_after after moment done =
       let young = can.ready.young in
-      let same = rows_with_new young.root young.kids site.next_page (site.last_step + 1) site.next_revision request.slug young.apart ids_below young.rising (ap (λ n. n + 1) last_is) next_is_step id_late in
+      let same = rows_with_new young.root young.kids site.next_page (site.last_step + 1)
+      site.next_revision request.slug young.apart ids_below young.rising (ap (λ n. n + 1)
+      last_is) next_is_step id_late in
       done.pages ∙ (rw (can.url_is, rows_are) same ∙ ap rows_of (sym (tree_after moment)))
 
   -- what was committed is what the creation makes of the world
-  pub commit_creates : (after : Site) (moment : ℕ) (reply : Reply) → Committed site after request url moment → reply ≡ Page site.next_page (path_text (1 ∷ (site.last_step + 1) ∷ [])) url → Creates after tally request moment reply
+  pub commit_creates : (after : Site) (moment : ℕ) (reply : Reply) →
+      Committed site after request url moment →
+      reply ≡ Page site.next_page (path_text (1 ∷ (site.last_step + 1) ∷ [])) url →
+      Creates after tally request moment reply
   commit_creates after moment reply done is =
       let young = can.ready.young in
       let stands = can.ready.stands in
-      let same_reply = reply_of_new young.root young.kids site.next_page (site.last_step + 1) site.next_revision request.slug young.apart ids_below young.rising (ap (λ n. n + 1) last_is) next_is_step id_late in
-      let last = last_step-put_last 0 site.next_page 1 request.slug (fresh_body CALLER site.next_revision) young.kids in
+      let same_reply = reply_of_new young.root young.kids site.next_page (site.last_step + 1)
+      site.next_revision request.slug young.apart ids_below young.rising (ap (λ n. n + 1)
+      last_is) next_is_step id_late in
+      let last = last_step-put_last 0 site.next_page 1 request.slug (fresh_body CALLER
+      site.next_revision) young.kids in
       record {
         reply_is =
             is ∙ (ap (λ u. Page site.next_page (path_text (1 ∷ (site.last_step + 1) ∷ [])) u) can.url_is
@@ -117,7 +148,12 @@ module _ (site : Site) (tally : Tally World) (request : Request) (url : List ℕ
             ∙ ap (page_reply tally.world.part.next_page) (sym (tree_after moment)))));
         stands = record {
           pages = pages_after after moment done;
-          revisions = done.revisions ∙ rw (stands.revisions, stands.next_revision, stands.next_page, stands.time) refl;
+          revisions = done.revisions ∙ rw (
+            stands.revisions,
+            stands.next_revision,
+            stands.next_page,
+            stands.time,
+          ) refl;
           time = done.time ∙ ap (λ t. max t moment) stands.time;
           next_page = done.next_page ∙ ap (λ n. n + 1) stands.next_page;
           next_revision = done.next_revision ∙ ap (λ n. n + 1) stands.next_revision;

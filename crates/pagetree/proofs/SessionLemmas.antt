@@ -33,7 +33,9 @@ back_of_nothing None = refl
 back_of_nothing (Some bytes) = ap Some (sym (append-nil bytes))
 
 -- a session begins with a new site, and nothing told
-pub first_so_far : (site : Site) (left taken : Option (List ℕ)) (coming : ℕ → Option ℕ) → ((digest : List ℕ) → StandsFor site (record { world = new_world digest; number = 0 })) → SoFar start site [] 0 left left taken taken coming coming
+pub first_so_far : (site : Site) (left taken : Option (List ℕ)) (coming : ℕ → Option ℕ) →
+    ((digest : List ℕ) → StandsFor site (record { world = new_world digest; number = 0 })) →
+    SoFar start site [] 0 left left taken taken coming coming
 unfolding start
 first_so_far site left taken coming stands = record {
   used = [];
@@ -61,7 +63,8 @@ first_so_far site left taken coming stands = record {
 }
 
 -- a session that makes no turn leaves everything as it was
-pub ends_at_once : (bytes : List ℕ) (taken : Option (List ℕ)) (coming : ℕ → Option ℕ) → EndsAtRead start bytes coming taken taken
+pub ends_at_once : (bytes : List ℕ) (taken : Option (List ℕ)) (coming : ℕ → Option ℕ) →
+    EndsAtRead start bytes coming taken taken
 ends_at_once bytes taken coming = record {
   reached = record {
     told = [];
@@ -78,7 +81,8 @@ module _ (site : Site) (held : List ℕ) (count : ℕ) (left_first left : Option
     (taken_first taken : Option (List ℕ)) (coming_first coming : ℕ → Option ℕ)
     (so : SoFar start site held count left_first left taken_first taken coming_first coming) where
   -- the site is ready for a request that is asked at the front of the bytes held
-  pub is_ready : (request : Request) (n : ℕ) → AsksAt (tally_of so.past).world held request n → count < ANSWER_LIMIT → IsReady site (tally_of so.past) (asked request)
+  pub is_ready : (request : Request) (n : ℕ) → AsksAt (tally_of so.past).world held request n →
+      count < ANSWER_LIMIT → IsReady site (tally_of so.past) (asked request)
   is_ready request n asks_at few = record {
     stands = so.stands;
     young = so.young;
@@ -87,24 +91,39 @@ module _ (site : Site) (held : List ℕ) (count : ℕ) (left_first left : Option
   }
 
   -- an exchange that stopped ends the session
-  pub ends_stopped : (request : Request) (n : ℕ) (after : Site) (taken_later : Option (List ℕ)) (why : Interrupted) → AsksAt (tally_of so.past).world held request n → Exchanges (tally_of so.past) (coming 0) (asked request) (nat_eq (count + 1) ANSWER_LIMIT) after taken taken_later (Err why) → (bytes : List ℕ) → left_first ≡ Some bytes → count < ANSWER_LIMIT → Ends start bytes coming_first taken_first taken_later (stopped_by why)
+  pub ends_stopped : (request : Request) (n : ℕ) (after : Site) (taken_later : Option (List ℕ)) (why
+      : Interrupted) → AsksAt (tally_of so.past).world held request n →
+      Exchanges (tally_of so.past) (coming 0) (asked request) (nat_eq (count + 1) ANSWER_LIMIT)
+      after taken taken_later (Err why) → (bytes : List ℕ) → left_first ≡ Some bytes →
+      count < ANSWER_LIMIT → Ends start bytes coming_first taken_first taken_later (stopped_by why)
   ends_stopped request n after taken_later BeforeAnswer asks_at same bytes told few =
-      inl (subst (λ (t : Option (List ℕ)). EndsAtRead start bytes coming_first taken_first t) (sym same) (ends_at_read start site held count left_first left taken_first taken coming_first coming so bytes told (omega arith)))
+      inl (subst (λ (t : Option (List ℕ)). EndsAtRead start bytes coming_first taken_first t) (sym
+      same) (ends_at_read start site held count left_first left taken_first taken coming_first
+      coming so bytes told (omega arith)))
   ends_stopped request n after taken_later BeforeWriting asks_at kept bytes told few =
-      inr (ends_unanswered start site held count left_first left taken_first taken coming_first coming so request n asks_at after kept.was bytes taken_later told few kept.written)
+      inr (ends_unanswered start site held count left_first left taken_first taken coming_first
+      coming so request n asks_at after kept.was bytes taken_later told few kept.written)
   ends_stopped request n after taken_later InWriting asks_at broken bytes told few =
-      inl (ends_in_answer start site held count left_first left taken_first taken coming_first coming so request n asks_at after broken.was bytes taken_later told few broken.written)
+      inl (ends_in_answer start site held count left_first left taken_first taken coming_first
+      coming so request n asks_at after broken.was bytes taken_later told few broken.written)
 
   -- what is not built ends the session
-  pub ends_refused : (taken_later : Option (List ℕ)) (status : Status) → RefusedWith taken taken_later status → judge (tally_of so.past).world held ≡ unbuilt → (bytes : List ℕ) → left_first ≡ Some bytes → count < ANSWER_LIMIT → Ends start bytes coming_first taken_first taken_later status
+  pub ends_refused : (taken_later : Option (List ℕ)) (status : Status) →
+      RefusedWith taken taken_later status → judge (tally_of so.past).world held ≡ unbuilt →
+      (bytes : List ℕ) → left_first ≡ Some bytes → count < ANSWER_LIMIT →
+      Ends start bytes coming_first taken_first taken_later status
   ends_refused taken_later Done with is bytes told few = absurd with
   ends_refused taken_later Usage with is bytes told few = absurd with
   ends_refused taken_later ReadFault with is bytes told few = absurd with
   ends_refused taken_later WriteFault with is bytes told few =
-      inr (ends_in_refusal start site held count left_first left taken_first taken coming_first coming so bytes taken_later told few is with)
+      inr (ends_in_refusal start site held count left_first left taken_first taken coming_first
+      coming so bytes taken_later told few is with)
   ends_refused taken_later Memory with is bytes told few =
-      inl (subst (λ (t : Option (List ℕ)). EndsAtRead start bytes coming_first taken_first t) (sym with) (ends_at_read start site held count left_first left taken_first taken coming_first coming so bytes told (omega arith)))
+      inl (subst (λ (t : Option (List ℕ)). EndsAtRead start bytes coming_first taken_first t) (sym
+      with) (ends_at_read start site held count left_first left taken_first taken coming_first
+      coming so bytes told (omega arith)))
   ends_refused taken_later (Cut n) with is bytes told few = absurd with
   ends_refused taken_later (Refused status) with is bytes told few =
-      rw with.0 (ends_unbuilt start site held count left_first left taken_first taken coming_first coming so bytes taken_later told few is with.1)
+      rw with.0 (ends_unbuilt start site held count left_first left taken_first taken coming_first
+      coming so bytes taken_later told few is with.1)
   ends_refused taken_later Spent with is bytes told few = absurd with

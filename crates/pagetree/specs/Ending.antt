@@ -34,40 +34,54 @@ pub record Reached (start : Past) (bytes : List ℕ) (coming : ℕ → Option �
   pub within : length told ≤ ANSWER_LIMIT
 
 -- The session ended as the bytes say, and wrote the text of its transcript.
-pub record EndsAsJudged (start : Past) (bytes : List ℕ) (coming : ℕ → Option ℕ) (before after : Option (List ℕ)) (status : Status) : Type 0 where
+pub record EndsAsJudged
+    (start : Past) (bytes : List ℕ) (coming : ℕ → Option ℕ)
+    (before after : Option (List ℕ)) (status : Status) : Type 0 where
   pub reached : Reached start bytes coming
   pub end : end_of (length reached.told) (judge (tally_of reached.past).world reached.rest) ≡ Some status
   pub written : after ≡ with_back before (text_of reached.told ++ last_text status)
 
--- A read failed: all that was asked so far was answered.
-pub record EndsAtRead (start : Past) (bytes : List ℕ) (coming : ℕ → Option ℕ) (before after : Option (List ℕ)) : Type 0 where
+-- A read failed, or memory was refused: what was written is the text of a transcript of the first
+-- requests.
+pub record EndsAtRead
+    (start : Past) (bytes : List ℕ) (coming : ℕ → Option ℕ)
+    (before after : Option (List ℕ)) : Type 0 where
   pub reached : Reached start bytes coming
   pub written : after ≡ with_back before (text_of reached.told)
 
 -- A write failed: of the last answer a first part was written, and all of the earlier ones.
-pub record EndsInAnswer (start : Past) (bytes : List ℕ) (coming : ℕ → Option ℕ) (before after : Option (List ℕ)) : Type 0 where
+pub record EndsInAnswer
+    (start : Past) (bytes : List ℕ) (coming : ℕ → Option ℕ)
+    (before after : Option (List ℕ)) : Type 0 where
   pub reached : Reached start bytes coming
   pub earlier : List Told
   pub last : Told
   pub told : reached.told ≡ earlier ++ last ∷ []
-  pub written : AppendsPart (with_back before (text_of earlier)) after (answer_text last.answer (length earlier + 1 == ANSWER_LIMIT))
+  pub written : AppendsPart (with_back before (text_of earlier)) after (answer_text last.answer
+      (length earlier + 1 == ANSWER_LIMIT))
 
--- A write failed in the answer to what is not built: a first part of it was written, and all answers before it.
-pub record EndsInRefusal (start : Past) (bytes : List ℕ) (coming : ℕ → Option ℕ) (before after : Option (List ℕ)) : Type 0 where
+-- A write failed in the answer to what is not built: a first part of it was written, and all
+-- answers before it.
+pub record EndsInRefusal
+    (start : Past) (bytes : List ℕ) (coming : ℕ → Option ℕ)
+    (before after : Option (List ℕ)) : Type 0 where
   pub reached : Reached start bytes coming
-  pub unbuilt : end_of (length reached.told) (judge (tally_of reached.past).world reached.rest) ≡ Some (Refused 501)
+  pub unbuilt : end_of (length reached.told) (judge (tally_of reached.past).world reached.rest) ≡
+      Some (Refused 501)
   pub written : AppendsPart (with_back before (text_of reached.told)) after not_built_text
 
 -- Memory was refused: the last request may have been accepted or refused without its answer being written.
-pub record EndsUnanswered (start : Past) (bytes : List ℕ) (coming : ℕ → Option ℕ) (before after : Option (List ℕ)) : Type 0 where
+pub record EndsUnanswered
+    (start : Past) (bytes : List ℕ) (coming : ℕ → Option ℕ)
+    (before after : Option (List ℕ)) : Type 0 where
   pub reached : Reached start bytes coming
   pub earlier : List Told
   pub last : Told
   pub told : reached.told ≡ earlier ++ last ∷ []
   pub written : after ≡ with_back before (text_of earlier)
 
--- What stands at the end of a session on these bytes, by how it ended. The bytes that the sink had taken are those
--- `before`, and then those `after`.
+-- What stands at the end of a session on these bytes, by how it ended. The bytes that the sink had
+-- taken are those `before`, and then those `after`.
 abbrev pub Ends : Past → List ℕ → (ℕ → Option ℕ) → Option (List ℕ) → Option (List ℕ) → Status → Type 0
 Ends start bytes coming before after Usage = ⊥
 Ends start bytes coming before after ReadFault = EndsAtRead start bytes coming before after

@@ -1,4 +1,5 @@
--- How the site in memory stands for what a history comes to, and what holds of every world that a session reaches.
+-- How the site in memory stands for what a history comes to, and what holds of every world that a
+-- session reaches.
 use Rattle.std.specs.Prelude.{◌≡◌, ℕ, ◌+◌, ◌<◌, ◌≤◌, List, [], ◌∷◌, None, Result, Ok, Err, IsTrue}
 use Rattle.page_tree.specs.Tree.{Forest, kids_of, kid_with_slug, last_step, AllIds, AreRising}
 use Rattle.page_tree.specs.Walk.{SLASH}
@@ -21,8 +22,8 @@ use Rattle.pagetree.specs.declared.answer.Answer.{Answer}
 use Rattle.pagetree.specs.declared.site.Site.{Site}
 use Rattle.pagetree.specs.Answering.{answered}
 
--- The site has what a history comes to: the tree's rows, the revisions, the time, the next ids and the number of the
--- last entry, and beside them the step of the last page below the root.
+-- The site has what a history comes to: the tree's rows, the revisions, the time, the next ids and
+-- the number of the last entry, and beside them the step of the last page below the root.
 pub record StandsFor (site : Site) (tally : Tally World) : Type 0 where
   pub pages : site.rows.pages ≡ rows_of tally.world.part.tree
   pub revisions : site.revisions.items ≡ tally.world.part.revisions
@@ -32,8 +33,8 @@ pub record StandsFor (site : Site) (tally : Tally World) : Type 0 where
   pub last_step : site.last_step ≡ last_step 0 (kids_of 1 tally.world.part.tree)
   pub number : site.number ≡ tally.number
 
--- What a session of creations below the root reaches: one page and one revision for each entry, the pages below the
--- root in the order of their steps, each with an id of its own.
+-- What a session of creations below the root reaches: one page and one revision for each entry, the
+-- pages below the root in the order of their steps, each with an id of its own.
 pub record IsYoung (tally : Tally World) : Type 0 where
   pub root : Body
   pub kids : Forest Body
@@ -62,10 +63,13 @@ pub record IsReady (site : Site) (tally : Tally World) (request : Request) : Typ
   pub few : tally.number < ANSWER_LIMIT
   pub built : IsTrue (is_built tally.world request)
 
--- A creation that no rule refuses was carried out: its reply is the new page's, and the site stands for the world
--- after it.
-pub record Creates (site : Site) (tally : Tally World) (request : Request) (moment : ℕ) (reply : Reply) : Type 0 where
-  pub reply_is : reply ≡ page_reply tally.world.part.next_page (after_creation tally request moment).world.part.tree
+-- A creation that no rule refuses was carried out: its reply is the new page's, and the site stands
+-- for the world after it.
+pub record Creates
+    (site : Site) (tally : Tally World) (request : Request) (moment : ℕ) (reply : Reply) :
+    Type 0 where
+  pub reply_is : reply ≡ page_reply tally.world.part.next_page (after_creation tally request
+      moment).world.part.tree
   pub stands : StandsFor site (after_creation tally request moment)
   pub young : IsYoung (after_creation tally request moment)
 

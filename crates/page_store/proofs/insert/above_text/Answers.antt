@@ -14,16 +14,23 @@ above_is_path path is long =
     record { some = omega arith; within = omega arith; steps = AreSteps-take (length path - 1) path is.steps }
 
 -- the steps of the path above
-parent_is : (path text parent : List ℕ) → path ≡ steps_of text → parent ≡ above path → parent ≡ above (steps_of text)
+parent_is : (path text parent : List ℕ) → path ≡ steps_of text → parent ≡ above path →
+    parent ≡ above (steps_of text)
 parent_is path text parent is short = short ∙ ap above is
 
 pub returns-clause-path : goal.returns-clause-path
 returns-clause-path c =
-    let is = parent_is c.in-Some.path c.args.text.now c.in-Some-parent.parent c.in-Some.ensures.path.1 c.in-Some-parent.ensures.shorter.1 in
-    rw (c.text.ensures.value, is) (IsPathText-path_text _ (above_is_path (steps_of c.args.text.now) c.requires.path.path c.requires.below))
+    let is = parent_is c.in-Some.path c.args.text.now c.in-Some-parent.parent
+    c.in-Some.ensures.path.1 c.in-Some-parent.ensures.shorter.1 in
+    rw (
+      c.text.ensures.value,
+      is,
+    ) (IsPathText-path_text _ (above_is_path (steps_of c.args.text.now) c.requires.path.path
+    c.requires.below))
 
 pub returns-clause-steps : goal.returns-clause-steps
 returns-clause-steps c =
-    let is = parent_is c.in-Some.path c.args.text.now c.in-Some-parent.parent c.in-Some.ensures.path.1 c.in-Some-parent.ensures.shorter.1 in
+    let is = parent_is c.in-Some.path c.args.text.now c.in-Some-parent.parent
+    c.in-Some.ensures.path.1 c.in-Some-parent.ensures.shorter.1 in
     let path = above_is_path (steps_of c.args.text.now) c.requires.path.path c.requires.below in
     rw (c.text.ensures.value, is) (steps_of-path_text _ path.steps)

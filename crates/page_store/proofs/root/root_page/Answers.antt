@@ -7,7 +7,8 @@ pub returns : goal.returns
 returns c = record {
   id_is = c.root-2.ensures;
   no_parent = refl;
-  path_is = c.in-Some.ensures.1 ∙ c.as_slice.ensures.value ∙ c.text.ensures.value ∙ ap path_text c.root.ensures;
+  path_is = c.in-Some.ensures.1 ∙ c.as_slice.ensures.value ∙ c.text.ensures.value ∙ ap path_text
+      c.root.ensures;
   depth_is = refl;
   url_is = c.from_vec.ensures ∙ c.in_ok-url.ensures.items;
   no_slug = c.root-3.ensures;

@@ -10,11 +10,16 @@ use Rattle.page_store.proofs.PathOrder.{is_lt-path_cmp, begins-from_test}
 use Rattle.page_store.proofs.search.is_in_front.Goals as goal
 
 -- a row that is found has the text of a path
-kept : (stored : List (ℕ × StoredRow)) (id : ℕ) (page : StoredRow) (text : List ℕ) → HaveTexts stored → Some page ≡ lookup (nat_eq id) stored → text ≡ page.row.path → IsPathText text
+kept : (stored : List (ℕ × StoredRow)) (id : ℕ) (page : StoredRow) (text : List ℕ) →
+    HaveTexts stored → Some page ≡ lookup (nat_eq id) stored → text ≡ page.row.path →
+    IsPathText text
 kept stored id page text all is same = rw same (let own = all id in (rw (← is) at own).path_is)
 
 -- the test of the row that is found is the test of the page
-tested : (front : Front) (path : List ℕ) (stored : List (ℕ × StoredRow)) (id : ℕ) (page : StoredRow) (text : List ℕ) → Some page ≡ lookup (nat_eq id) stored → text ≡ page.row.path → front_test front path (steps_of text) ≡ is_front front path stored id
+tested : (front : Front) (path : List ℕ) (stored : List (ℕ
+    × StoredRow)) (id : ℕ) (page : StoredRow) (text : List ℕ) →
+    Some page ≡ lookup (nat_eq id) stored → text ≡ page.row.path →
+    front_test front path (steps_of text) ≡ is_front front path stored id
 tested front path stored id page text is same = rw (← is, same) refl
 
 pub compare_texts-requires-clause-first : goal.compare_texts-requires-clause-first

@@ -7,7 +7,9 @@ use Rattle.pagetree.proofs.session.session.Given as goal
 
 abbrev pub invariant-turns : goal.invariant-turns
 invariant-turns g l = record {
-  so : SoFar start l.site l.held l.answered (g.S.Source.left l.fn.source) (g.S.Source.left l.source) (g.K.Sink.taken l.fn.sink) (g.K.Sink.taken l.sink) (g.C.Clock.coming l.fn.clock) (g.C.Clock.coming l.clock);
+  so : SoFar start l.site l.held l.answered (g.S.Source.left l.fn.source) (g.S.Source.left l.source)
+      (g.K.Sink.taken l.fn.sink) (g.K.Sink.taken l.sink) (g.C.Clock.coming l.fn.clock)
+      (g.C.Clock.coming l.clock);
   few : l.answered < ANSWER_LIMIT;
   fits : length l.held ≤ ROOM;
   source_later : g.S.Source.faults l.fn.source ≤ g.S.Source.faults l.source;

@@ -15,29 +15,44 @@ use Rattle.page_store.proofs.KeptLemmas.{insert_kept}
 use Rattle.page_store.proofs.rows.Rows.insert_reserved.Goals as goal
 
 -- the parent by the path itself
-parent_by_path : (text path : List ℕ) (value seen : RowList) (p : ℕ) → text ≡ path → seen ≡ value → parent_id (steps_of text) value.pages ≡ Some p → parent_id (steps_of path) seen.pages ≡ Some p
+parent_by_path : (text path : List ℕ) (value seen : RowList) (p : ℕ) → text ≡ path → seen ≡ value →
+    parent_id (steps_of text) value.pages ≡ Some p → parent_id (steps_of path) seen.pages ≡ Some p
 parent_by_path text path value seen p same is h = rw (is, ← same) h
 
 -- the place by the path itself
-place_by_path : (text path : List ℕ) (value seen : RowList) (n : ℕ) → text ≡ path → seen ≡ value → n ≡ leading (λ row. comes_before row.path (steps_of text)) value.pages → n ≡ leading (λ row. comes_before row.path (steps_of path)) seen.pages
+place_by_path : (text path : List ℕ) (value seen : RowList) (n : ℕ) → text ≡ path → seen ≡ value →
+    n ≡ leading (λ row. comes_before row.path (steps_of text)) value.pages →
+    n ≡ leading (λ row. comes_before row.path (steps_of path)) seen.pages
 place_by_path text path value seen n same is h = rw (is, ← same) h
 
 -- the kids by the slug itself
-names_by_slug : (kids more_kids : List (KidKey × ℕ)) (p : ℕ) (copy slug : List ℕ) (id : ℕ) → copy ≡ slug → ((key : KidKey) → lookup (key_eq key) more_kids ≡ cond (key_eq (kid_key p copy) key) (Some id) (lookup (key_eq key) kids)) → (key : KidKey) → lookup (key_eq key) more_kids ≡ cond (key_eq (kid_key p slug) key) (Some id) (lookup (key_eq key) kids)
+names_by_slug : (kids more_kids : List (KidKey × ℕ)) (p : ℕ) (copy slug : List ℕ) (id : ℕ) →
+    copy ≡ slug → ((key : KidKey) →
+    lookup (key_eq key) more_kids ≡ cond (key_eq (kid_key p copy) key) (Some id) (lookup (key_eq
+    key) kids)) → (key : KidKey) →
+    lookup (key_eq key) more_kids ≡ cond (key_eq (kid_key p slug) key) (Some id) (lookup (key_eq
+    key) kids)
 names_by_slug kids more_kids p copy slug id same h key = rw (← same) (h key)
 
 -- what the store keeps then stands for all rows
-kept_then : (c : goal.After-put_at) → IsKept c.put.new.map.entries c.put_at.new.order.items c.put-2.new.map.entries (with_row (seen_row c.args.row (Some c.parent_of-parent.result) c.args.url) (rows_seen c.self.inside.stored.entries c.self.inside.order.items))
+kept_then : (c : goal.After-put_at) →
+    IsKept c.put.new.map.entries c.put_at.new.order.items c.put-2.new.map.entries (with_row
+    (seen_row c.args.row (Some c.parent_of-parent.result) c.args.url) (rows_seen
+    c.self.inside.stored.entries c.self.inside.order.items))
 kept_then c =
     let p = c.parent_of-parent.result in
     let new : StoredRow = record { row = c.args.row; url = c.args.url; parent = Some p } in
     let is = subst (λ (v : RowList). IsNewRow v.pages c.args.row) (sym c.self.view_is) c.requires.new in
-    let found = parent_by_path _ c.args.row.path _ _ p c.as_slice.ensures.value c.self.view_is c.parent_of-parent.ensures in
-    let place = place_by_path _ c.args.row.path _ _ _ c.as_slice-2.ensures.value c.self.view_is c.place_of-place.ensures.place in
+    let found = parent_by_path _ c.args.row.path _ _ p c.as_slice.ensures.value c.self.view_is
+    c.parent_of-parent.ensures in
+    let place = place_by_path _ c.args.row.path _ _ _ c.as_slice-2.ensures.value c.self.view_is
+    c.place_of-place.ensures.place in
     let fits = subst IsPageId c.get-number.ensures.value c.get-number.ensures.range in
-    let names = names_by_slug _ _ p c.copy.result c.args.row.slug c.args.row.id c.copy.ensures c.put-2.ensures.updates.0 in
+    let names = names_by_slug _ _ p c.copy.result c.args.row.slug c.args.row.id c.copy.ensures
+    c.put-2.ensures.updates.0 in
     rw (c.put_at.ensures.items, place)
-    (insert_kept _ _ _ _ _ _ _ new p c.self.invariant is found (λ i. Some p) fits c.add_kid.ensures.others c.put.ensures.updates.0 names)
+    (insert_kept _ _ _ _ _ _ _ new p c.self.invariant is found (λ i. Some p) fits
+    c.add_kid.ensures.others c.put.ensures.updates.0 names)
 
 pub add_kid-requires : goal.add_kid-requires
 add_kid-requires c = few_kids _ _ _ _ c.self.invariant c.parent_of-parent.result
@@ -45,10 +60,14 @@ add_kid-requires c = few_kids _ _ _ _ c.self.invariant c.parent_of-parent.result
 pub invariant_of-self : goal.invariant_of-self
 invariant_of-self c =
     let kept = kept_then c in
-    subst (λ (rows : List Page). IsKept c.put.new.map.entries c.put_at.new.order.items c.put-2.new.map.entries rows) (sym (rows_seen-kept _ _ _ _ kept)) kept
+    subst (λ (rows : List Page). IsKept c.put.new.map.entries c.put_at.new.order.items
+    c.put-2.new.map.entries rows) (sym (rows_seen-kept _ _ _ _ kept)) kept
 
 pub returns-clause-pages : goal.returns-clause-pages
 returns-clause-pages c =
-    let found = parent_by_path _ c.args.row.path _ _ c.parent_of-parent.result c.as_slice.ensures.value (λ i. c.args.self.now) c.parent_of-parent.ensures in
-    let seen = subst (λ (v : RowList). rows_seen c.put.new.map.entries c.put_at.new.order.items ≡ with_row (seen_row c.args.row (Some c.parent_of-parent.result) c.args.url) v.pages) c.self.view_is (rows_seen-kept _ _ _ _ (kept_then c)) in
+    let found = parent_by_path _ c.args.row.path _ _ c.parent_of-parent.result
+    c.as_slice.ensures.value (λ i. c.args.self.now) c.parent_of-parent.ensures in
+    let seen = subst (λ (v : RowList). rows_seen c.put.new.map.entries c.put_at.new.order.items ≡
+    with_row (seen_row c.args.row (Some c.parent_of-parent.result) c.args.url) v.pages)
+    c.self.view_is (rows_seen-kept _ _ _ _ (kept_then c)) in
     rw found seen

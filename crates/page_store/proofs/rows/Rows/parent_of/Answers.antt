@@ -13,18 +13,21 @@ none_is_not_some o none some = let h = subst IsSome none some in search rules
 pub above_text-above-requires-clause-below : goal.above_text-above-requires-clause-below
 above_text-above-requires-clause-below c =
     steps_of_kid (steps_of c.args.path.now) _ c.self.invariant.are_pages.paths
-    (subst (λ (v : RowList). IsSome (parent_id (steps_of c.args.path.now) v.pages)) (sym c.self.view_is) c.requires.there)
+    (subst (λ (v : RowList). IsSome (parent_id (steps_of c.args.path.now) v.pages)) (sym
+    c.self.view_is) c.requires.there)
 
 pub unreachable-requires : goal.unreachable-requires
 unreachable-requires c =
     let are = subst (λ (v : RowList). ArePages v.pages) c.self.view_is c.self.invariant.are_pages in
     let text = ap steps_of c.as_slice.ensures.value ∙ c.above_text-above.ensures.steps in
-    let found = parent_at (steps_of c.args.path.now) c.as_slice.result.now c.place_of-place.result c.args.self.now.pages are.in_order c.requires.there text c.place_of-place.ensures.place in
+    let found = parent_at (steps_of c.args.path.now) c.as_slice.result.now c.place_of-place.result
+    c.args.self.now.pages are.in_order c.requires.there text c.place_of-place.ensures.place in
     none_is_not_some _ (found ∙ sym c.at.ensures ∙ c.in-None.is) c.requires.there
 
 pub returns : goal.returns
 returns c =
     let are = subst (λ (v : RowList). ArePages v.pages) c.self.view_is c.self.invariant.are_pages in
     let text = ap steps_of c.as_slice.ensures.value ∙ c.above_text-above.ensures.steps in
-    let found = parent_at (steps_of c.args.path.now) c.as_slice.result.now c.place_of-place.result c.args.self.now.pages are.in_order c.requires.there text c.place_of-place.ensures.place in
+    let found = parent_at (steps_of c.args.path.now) c.as_slice.result.now c.place_of-place.result
+    c.args.self.now.pages are.in_order c.requires.there text c.place_of-place.ensures.place in
     found ∙ sym c.at.ensures ∙ c.in-Some.is

@@ -13,8 +13,10 @@ count_front-requires-clause-first c =
 
 pub returns-clause-place : goal.returns-clause-place
 returns-clause-place c =
-    rw (← c.self.view_is) (c.count_front.ensures ∙ rw c.deref.ensures.value (place_found _ _ _ _ c.self.invariant Before (steps_of c.args.path.now)))
+    rw (← c.self.view_is) (c.count_front.ensures ∙ rw c.deref.ensures.value (place_found _ _ _ _
+    c.self.invariant Before (steps_of c.args.path.now)))
 
 pub returns-clause-within : goal.returns-clause-within
 returns-clause-within c =
-    rw (returns-clause-place c) (leading-le-length (λ row. comes_before row.path (steps_of c.args.path.now)) c.args.self.now.pages)
+    rw (returns-clause-place c) (leading-le-length (λ row. comes_before row.path (steps_of
+    c.args.path.now)) c.args.self.now.pages)

@@ -1,88 +1,145 @@
 -- Laws of transcripts: what they leave, and that there is one.
-use Rattle.std.proofs.Common.{◌≡◌, ◌≤◌, ◌+◌, ℕ, List, [], ◌∷◌, ◌++◌, length, Option, Some, None, Result, Ok, Err, refl, sym, ap, subst, ◌∙◌, inl, inr, arith, append_assoc, length-append}
+use Rattle.std.proofs.Common.{◌≡◌, ◌≤◌, ◌+◌, ℕ, Bool, true, false, List, [], ◌∷◌, ◌++◌, length, Option, Some, None, Result, Ok, Err, refl, sym, ap, subst, ◌∙◌, inl, inr, arith, append_assoc, length-append}
 use Rattle.std.proofs.lemmas.Bool.{cases_lt}
 use Rattle.std.proofs.lemmas.List.{append-nil}
-use Rattle.std.specs.Prelude.{IsSome, IfSome}
+use Rattle.std.specs.Prelude.{IsSome, IfSome, IsTrue}
+use Rattle.site_types.specs.declared.command.Command.{Command}
 use Rattle.site_types.specs.declared.entry.Entry.{Entry}
 use Rattle.site_types.specs.declared.refusal.Refusal.{Refusal}
 use Rattle.site_types.specs.declared.reply.Reply.{Reply}
-use Rattle.site_history.specs.History.{Item, accepted, longer}
-use Rattle.site_history.proofs.HistoryLemmas.{AllMayStand-push}
+use Rattle.site_history.specs.History.{Tally, Item, accepted, tick, tick_all, AllMayStand, reply_of}
+use Rattle.site_model.specs.World.{World}
 use Rattle.site_model.specs.Step.{step}
-use Rattle.wire_model.specs.Requests.{Request}
-use Rattle.wire_model.specs.Accepted.{accepted_by, accepted_in, grown_by}
-use Rattle.wire_model.specs.Exchange.{Past, Told, IsLegal, number_of, tally_of, decide, entry_of, ExchangedBy, asks, judge}
-use Rattle.wire_model.specs.Transcript.{Follows, HasMoments}
+use Rattle.http_model.specs.Requests.{Request, Front, whole, IsFront}
+use Rattle.http_model.proofs.FrontLemmas.{one_front, final_stays}
+use Rattle.public_view.specs.declared.card.Card.{Card}
+use Rattle.wire_model.specs.declared.call.Call.{Call}
+use Rattle.wire_model.specs.declared.call.Call.TheVariants.{Run, Page, Public}
+use Rattle.wire_model.specs.declared.call.RouteFault.{RouteFault}
+use Rattle.wire_model.specs.Cards.{card_of}
+use Rattle.wire_model.specs.Routes.{call_of}
+use Rattle.wire_model.specs.Exchange.{Past, IsLegal, number_of, tally_of, grown_by, user_of, is_built, entry_of, Outcome, decided, entered, run, card_told, called, called_by, called_with, asked, exchange}
+use Rattle.wire_model.specs.Transcript.{Told, outcome, after_told, EndsWhereClosing, Follows, closes, HasMoments}
 use Rattle.wire_model.specs.Laws.{AsksNothing}
-use Rattle.wire_model.proofs.FinalLemmas.{asks_stays}
 
--- an exchange from a legal history on leaves a legal one
-exchange_keeps_legal : (past after : Past) (told : Told) (r : Result Reply Refusal) →
-    decide past (entry_of told.request told.moment) ≡ r → IsLegal past →
-    ExchangedBy past told after r → IsLegal after
-exchange_keeps_legal past after told (Ok reply) is legal h =
-    let item : Item Entry Reply = accepted
-    (entry_of told.request told.moment ((tally_of past).number + 1)) reply in
-    rw (h.1) (AllMayStand-push step number_of past.start past.items item legal (refl, is))
-exchange_keeps_legal past after told (Err refusal) is legal h = rw (h.1) legal
+-- what is added may stand after a history
+abbrev AddsLegal : Tally World → Outcome → Type 0
+AddsLegal tally added = AllMayStand step number_of tally added.added
+
+-- an entry with the next number is added legally
+decided_legal : (tally : Tally World) (entry : Entry) (r : Result Reply Refusal) →
+    reply_of step number_of (step tally.world entry) ≡ r → entry.number ≡ tally.number + 1 →
+    AddsLegal tally (decided entry r)
+decided_legal tally entry (Ok reply) is next = ((next, is), tt)
+decided_legal tally entry (Err refusal) is next = tt
+
+-- a command is added legally
+run_legal : (tally : Tally World) (user moment : ℕ) (command : Command) (built : Bool) →
+    is_built tally.world command ≡ built → AddsLegal tally (run tally user moment command)
+run_legal tally user moment command true is =
+    let entry : Entry = entry_of user moment command (tally.number + 1) in
+    rw is (decided_legal tally entry (reply_of step number_of (step tally.world entry)) refl refl)
+run_legal tally user moment command false is = rw is tt
+
+-- a card adds nothing
+card_legal : (tally : Tally World) (id : ℕ) (card : Option Card) →
+    AddsLegal tally (card_told id card)
+card_legal tally id (Some card) = tt
+card_legal tally id None = tt
+
+-- a call by a user is added legally
+called_legal : (tally : Tally World) (user moment : ℕ) (call : Call) →
+    AddsLegal tally (called tally user moment call)
+called_legal tally user moment (Run command) = run_legal tally user moment command _ refl
+called_legal tally user moment (Page id) = card_legal tally id (card_of tally.world id)
+called_legal tally user moment (Public url) = tt
+
+-- so is a call whose user is known or not
+called_by_legal : (tally : Tally World) (moment : ℕ) (call : Call) (user : Option ℕ) →
+    AddsLegal tally (called_by tally moment call user)
+called_by_legal tally moment call (Some user) = called_legal tally user moment call
+called_by_legal tally moment call None = tt
+
+-- so is a call with a token
+called_with_legal : (tally : Tally World) (moment : ℕ) (token : Option (List ℕ)) (call : Call) →
+    AddsLegal tally (called_with tally moment token call)
+called_with_legal tally moment token (Run command) =
+    called_by_legal tally moment (Run command) (user_of token)
+called_with_legal tally moment token (Page id) =
+    called_by_legal tally moment (Page id) (user_of token)
+called_with_legal tally moment token (Public url) = tt
+
+-- so is what a request asks for
+asked_legal : (tally : Tally World) (moment : ℕ) (token : Option (List ℕ))
+    (call : Result Call RouteFault) → AddsLegal tally (asked tally moment token call)
+asked_legal tally moment token (Ok call) = called_with_legal tally moment token call
+asked_legal tally moment token (Err fault) = tt
+
+-- what a request comes to is added legally
+exchange_legal : (tally : Tally World) (request : Request) (moment : ℕ) →
+    AddsLegal tally (exchange tally request moment)
+unfolding exchange
+exchange_legal tally request moment = asked_legal tally moment request.token (call_of request)
+
+-- legal items, and more that may stand after them, are legal together
+AllMayStand-append : (tally : Tally World) (xs ys : List (Item Entry Reply)) →
+    AllMayStand step number_of tally xs →
+    AllMayStand step number_of (tick_all step number_of tally xs) ys →
+    AllMayStand step number_of tally (xs ++ ys)
+AllMayStand-append tally [] ys all next = next
+AllMayStand-append tally (x ∷ xs) ys all next =
+    (all.0, AllMayStand-append (tick step number_of tally x) xs ys all.1 next)
+
+-- a request leaves a legal history legal
+told_legal : (past : Past) (told : Told) → IsLegal past → IsLegal (after_told past told)
+told_legal past told legal =
+    AllMayStand-append past.start past.items (outcome past told).added legal
+    (exchange_legal (tally_of past) told.request told.moment)
 
 -- a transcript from a legal history on leaves a legal one
 pub transcript_keeps_legal : (past after : Past) (bytes rest : List ℕ) (told : List Told) →
     IsLegal past → Follows past bytes told after rest → IsLegal after
 transcript_keeps_legal past after bytes rest [] legal h = rw (h.0) legal
 transcript_keeps_legal past after bytes rest (x ∷ told) legal h =
-    transcript_keeps_legal h.1 after h.0 rest told
-    (exchange_keeps_legal past h.1 x (decide past (entry_of x.request x.moment)) refl legal h.3)
-    h.4
+    transcript_keeps_legal (after_told past x) after h.0 rest told (told_legal past x legal) h.4
+
+-- a whole request stays so with more bytes behind
+whole_stays : (bytes more rest : List ℕ) (request : Request) → IsFront bytes (whole request rest) →
+    IsFront (bytes ++ more) (whole request (rest ++ more))
+whole_stays bytes more rest request is = final_stays bytes more (whole request rest) tt is
 
 -- a transcript stays one with more bytes behind
 pub transcript_stays : (past after : Past) (bytes rest more : List ℕ) (told : List Told) →
     Follows past bytes told after rest → Follows past (bytes ++ more) told after (rest ++ more)
 transcript_stays past after bytes rest more [] h = (h.0, ap (λ (bs : List ℕ). bs ++ more) h.1)
 transcript_stays past after bytes rest more (x ∷ told) h =
-    let asked = asks_stays (tally_of past).world bytes more x.request h.0 h.2 in
-    (h.0 ++ more, h.1, asked, h.3, transcript_stays h.1 after h.0 rest more told h.4)
-
--- an exchange adds what its answer says
-exchange_adds : (past after : Past) (told : Told) (r : Result Reply Refusal) →
-    ExchangedBy past told after r → after ≡ grown_by past (accepted_by told told.answer)
-exchange_adds past after told (Ok reply) h = rw (h.0) h.1
-exchange_adds past after told (Err refusal) h = rw (h.0, append-nil past.items) h.1
-
--- a transcript adds what its answers say
-pub transcript_adds : (past after : Past) (bytes rest : List ℕ) (told : List Told) →
-    Follows past bytes told after rest → after ≡ grown_by past (accepted_in told)
-transcript_adds past after bytes rest [] h = rw (append-nil past.items) h.0
-transcript_adds past after bytes rest (x ∷ told) h =
-    let here = exchange_adds past h.1 x _ h.3 in
-    let later = transcript_adds h.1 after h.0 rest told h.4 in
-    later ∙ (ap (λ (p : Past). grown_by p (accepted_in told)) here
-    ∙ ap (λ (items : List (Item Entry Reply)). grown_by (record { start = past.start; items = [] })
-    items) (append_assoc past.items (accepted_by x x.answer) (accepted_in told)))
-
--- two exchanges of one request at one moment have one answer, and leave one history
-exchanges_agree : (past a b : Past) (x y : Told) (r : Result Reply Refusal) →
-    x.request ≡ y.request → x.moment ≡ y.moment → ExchangedBy past x a r → ExchangedBy past y b r →
-    (x ≡ y) × (a ≡ b)
-exchanges_agree past a b x y (Ok reply) same at_once h k = (
-  λ i. record { request = same i; moment = at_once i; answer = (h.0 ∙ sym k.0) i },
-  h.1 ∙
-      (ap both (λ i. (same i, at_once i)) ∙ sym k.1),
-)
-  where
-    both : Request × ℕ → Past
-    both p = longer past (accepted (entry_of p.0 p.1 ((tally_of past).number + 1)) reply)
-exchanges_agree past a b x y (Err refusal) same at_once h k = (
-  λ i. record { request = same i; moment = at_once i; answer = (h.0 ∙ sym k.0) i },
-  h.1 ∙ sym
-      k.1,
-)
+    (h.0 ++ more, whole_stays bytes more h.0 x.request h.1, h.2, h.3,
+      transcript_stays (after_told past x) after h.0 rest more told h.4)
 
 -- two moments that a clock gives at one place are one
 one_moment : (o : Option ℕ) (m n : ℕ) → IsSome o → IfSome o (λ moment. m ≡ moment) →
     IfSome o (λ moment. n ≡ moment) → m ≡ n
 one_moment (Some moment) m n some h k = h ∙ sym k
 one_moment None m n some h k = cc
+
+-- two requests at the front of the same bytes are one, and so is what follows them
+one_whole : (bytes rest left : List ℕ) (request other : Request) →
+    IsFront bytes (whole request rest) → IsFront bytes (whole other left) →
+    (request ≡ other) × (rest ≡ left)
+one_whole bytes rest left request other is other_is =
+    let same : whole request rest ≡ whole other left = one_front bytes _ _ is other_is in
+    let requests : request ≡ other = cc in
+    let rests : rest ≡ left = cc in
+    (requests, rests)
+
+-- two tellings of one request at one moment are one
+one_told : (past : Past) (x y : Told) → x.request ≡ y.request → x.moment ≡ y.moment →
+    x.answer ≡ (outcome past x).answer → y.answer ≡ (outcome past y).answer → x ≡ y
+one_told past x y same at_once is other_is =
+    let answers : x.answer ≡ y.answer =
+        is ∙ (ap (λ (p : Request × ℕ). (exchange (tally_of past) p.0 p.1).answer)
+        (λ i. (same i, at_once i)) ∙ sym other_is) in
+    λ i. record { request = same i; moment = at_once i; answer = answers i }
 
 -- of two transcripts the longer begins with the shorter, and goes on from where that ended
 pub longer_begins_with_shorter : (coming : ℕ → Option ℕ) (place : ℕ) (past after later : Past)
@@ -97,19 +154,14 @@ longer_begins_with_shorter coming place past after later bytes rest left (x ∷ 
     le = absurd (omega arith)
 longer_begins_with_shorter coming place past after later bytes rest left (x ∷ told) (y ∷ other)
     tells m n h k le =
-    let judged : asks x.request h.0 ≡ asks y.request k.0 = sym h.2 ∙ k.2 in
-    let same : x.request ≡ y.request = cc in
-    let mid : h.0 ≡ k.0 = cc in
+    let same = one_whole bytes h.0 k.0 x.request y.request h.1 k.1 in
     let at_once = one_moment (coming place) x.moment y.moment (tells place) m.0 n.0 in
-    let exchanged = subst (λ (p : Request × ℕ). ExchangedBy past y k.1
-    (decide past (entry_of p.0 p.1))) (λ i. (sym same i, sym at_once i)) k.3 in
-    let agree = exchanges_agree past h.1 k.1 x y (decide past (entry_of x.request x.moment)) same
-    at_once h.3 exchanged in
-    let onward = subst (λ (p : Past × List ℕ). Follows p.0 p.1 other later left)
-    (λ i. (sym agree.1 i, sym mid i)) k.4 in
-    let rest_of = longer_begins_with_shorter coming (place + 1) h.1 after later h.0 rest left told
-    other tells m.1 n.1 h.4 onward (omega arith) in
-    (rest_of.0, (λ i. sym agree.0 i ∷ rest_of.1 i), rest_of.2)
+    let alike : x ≡ y = one_told past x y same.0 at_once h.2 k.2 in
+    let onward = subst (λ (p : Told × List ℕ). Follows (after_told past p.0) p.1 other later left)
+        (λ i. (sym alike i, sym same.1 i)) k.4 in
+    let rest_of = longer_begins_with_shorter coming (place + 1) (after_told past x) after later h.0
+        rest left told other tells m.1 n.1 h.4 onward (omega arith) in
+    (rest_of.0, (λ i. sym alike i ∷ rest_of.1 i), rest_of.2)
 
 -- no transcript goes on where as many requests are told
 ends_alike : (after later : Past) (rest left : List ℕ) (told other more : List Told) →
@@ -128,28 +180,61 @@ pub one_transcript : (coming : ℕ → Option ℕ) (place : ℕ) (past after lat
     length told ≡ length other → (told ≡ other) × (after ≡ later) × (rest ≡ left)
 one_transcript coming place past after later bytes rest left told other tells m n h k e =
     let both = longer_begins_with_shorter coming place past after later bytes rest left told other
-    tells m n h k (omega arith) in
+        tells m n h k (omega arith) in
     ends_alike after later rest left told other both.0 e both.1 both.2
 
--- where nothing is asked no transcript goes on
+-- where no request is left no transcript goes on
 nothing_goes_on : (after later : Past) (rest left : List ℕ) (told other more : List Told) →
-    AsksNothing (judge (tally_of after).world rest) → other ≡ told ++ more →
-    Follows after rest more later left → length other ≤ length told
-nothing_goes_on after later rest left told other [] none is f = omega
-    (arith, ap length (is ∙ append-nil told))
+    AsksNothing rest → other ≡ told ++ more → Follows after rest more later left →
+    length other ≤ length told
+nothing_goes_on after later rest left told other [] none is f =
+    omega (arith, ap length (is ∙ append-nil told))
 nothing_goes_on after later rest left told other (x ∷ more) none is f =
-    absurd (subst AsksNothing f.2 none)
+    absurd (none x.request f.0 f.1)
 
--- where nothing is asked at the end of a transcript no other is longer
+-- where no request is left at the end of a transcript no other is longer
 pub nothing_asked_is_last : (coming : ℕ → Option ℕ) (place : ℕ) (past after later : Past)
     (bytes rest left : List ℕ) (told other : List Told) →
     ((k : ℕ) → IsSome (coming k)) → HasMoments coming place told → HasMoments coming place other →
     Follows past bytes told after rest → Follows past bytes other later left →
-    AsksNothing (judge (tally_of after).world rest) → length other ≤ length told
+    AsksNothing rest → length other ≤ length told
 nothing_asked_is_last coming place past after later bytes rest left told other tells m n h k none =
     elim (cases_lt (length told) (length other)) [
       | inr le ↦ le
       | inl lt ↦ (let both = longer_begins_with_shorter coming place past after later bytes rest
           left told other tells m n h k (omega arith) in nothing_goes_on after later rest left told
           other both.0 none both.1 both.2)
+    ]
+
+-- where a request that asks for closing is followed by nothing, so is it in each longer list
+closing_goes_nowhere : (close : Bool) (more : List Told) → close ≡ true →
+    EndsWhereClosing close more → more ≡ []
+closing_goes_nowhere true more is ends = ends
+closing_goes_nowhere false more is ends = cc
+
+-- behind a transcript whose last request asks for closing no other goes on
+closed_goes_nowhere : (past later : Past) (bytes left : List ℕ) (told more : List Told) →
+    closes told ≡ true → Follows past bytes (told ++ more) later left → more ≡ []
+closed_goes_nowhere past later bytes left [] more is f = cc
+closed_goes_nowhere past later bytes left (x ∷ []) more is f =
+    closing_goes_nowhere x.request.close more is f.3
+closed_goes_nowhere past later bytes left (x ∷ y ∷ told) more is f =
+    closed_goes_nowhere (after_told past x) later f.0 left (y ∷ told) more is f.4
+
+-- so no other transcript is longer
+pub closing_is_last : (coming : ℕ → Option ℕ) (place : ℕ) (past after later : Past)
+    (bytes rest left : List ℕ) (told other : List Told) →
+    ((k : ℕ) → IsSome (coming k)) → HasMoments coming place told → HasMoments coming place other →
+    Follows past bytes told after rest → Follows past bytes other later left →
+    IsTrue (closes told) → length other ≤ length told
+closing_is_last coming place past after later bytes rest left told other tells m n h k last =
+    elim (cases_lt (length told) (length other)) [
+      | inr le ↦ le
+      | inl lt ↦ (let both = longer_begins_with_shorter coming place past after later bytes rest
+          left told other tells m n h k (omega arith) in
+          let whole_of = subst (λ (os : List Told). Follows past bytes os later left) both.1 k in
+          let none = closed_goes_nowhere past later bytes left told both.0 last whole_of in
+          let same : other ≡ told = both.1 ∙ (ap (λ (os : List Told). told ++ os) none
+              ∙ append-nil told) in
+          omega (arith, ap length same))
     ]

@@ -1,17 +1,28 @@
--- The exchange of one request: which answer it may get after a history, and the history after it.
-use Rattle.std.specs.Prelude.{◌≡◌, ℕ, Bool, ◌==◌, ◌||◌, not, ◌+◌, List, [], ◌∷◌, length, Result, Ok, Err, if◌then◌else◌}
+-- The exchange of one request: which answer it gets after a history, and what that adds to it.
+use Rattle.std.specs.Prelude.{◌≡◌, ℕ, Bool, true, false, ◌==◌, ◌||◌, not, ◌+◌, List, [], ◌∷◌, ◌++◌, bytes_eq, Option, Some, None, Result, Ok, Err, if◌then◌else◌}
+use Rattle.std.specs.Bool.{then_some}
 use Rattle.page_tree.specs.Tree.{has_page}
-use Rattle.site_types.specs.Content.{ContentValue}
+use Rattle.site_types.specs.declared.command.Command.{Command}
 use Rattle.site_types.specs.declared.command.Command.TheVariants.{Create}
 use Rattle.site_types.specs.declared.entry.Entry.{Entry}
 use Rattle.site_types.specs.declared.refusal.Refusal.{Refusal}
+use Rattle.site_types.specs.declared.refusal.Refusal.TheVariants.{NoPage}
 use Rattle.site_types.specs.declared.reply.Reply.{Reply}
-use Rattle.site_history.specs.History.{Tally, History, accepted, longer}
+use Rattle.site_history.specs.History.{Tally, History, Item, accepted}
 use Rattle.site_history.specs.History as histories
 use Rattle.site_model.specs.World.{World}
 use Rattle.site_model.specs.Step.{step}
-use Rattle.wire_model.specs.Requests.{Request, Front, whole, part, refused, front}
-use Rattle.wire_model.specs.Answers.{Answer, accepted_as, refused_by}
+use Rattle.http_model.specs.Requests.{Request}
+use Rattle.public_view.specs.declared.card.Card.{Card}
+use Rattle.wire_model.specs.declared.answer.Answer.{Answer}
+use Rattle.wire_model.specs.declared.answer.Answer.TheVariants as answers
+use Rattle.wire_model.specs.declared.call.Call.{Call}
+use Rattle.wire_model.specs.declared.call.Call.TheVariants.{Run, Page, Public}
+use Rattle.wire_model.specs.declared.call.RouteFault.{RouteFault}
+use Rattle.wire_model.specs.declared.call.RouteFault.TheVariants as faults
+use Rattle.wire_model.specs.declared.words.TheConstants.{KNOWN_TOKEN}
+use Rattle.wire_model.specs.Cards.{card_of}
+use Rattle.wire_model.specs.Routes.{call_of}
 
 -- a history of the site
 abbrev pub Past : Type 0
@@ -29,68 +40,86 @@ tally_of past = histories.tally_of step number_of past
 abbrev pub IsLegal : Past → Type 0
 IsLegal past = histories.IsLegal step number_of past
 
--- what an entry with the next number gets after a history
-abbrev pub decide : Past → (ℕ → Entry) → Result Reply Refusal
-decide past entry_with = histories.decide step number_of (tally_of past) entry_with
+-- the history with these items at its end
+abbrev pub grown_by : Past → List (Item Entry Reply) → Past
+grown_by past items = record { start = past.start; items = past.items ++ items }
 
--- The caller of every request is user 1.
-abbrev pub CALLER : ℕ
-CALLER = 1
-
--- the content of a request: its title, and no blocks
-abbrev pub content_of : Request → ContentValue
-content_of request = record { title = request.title; blocks = [] }
-
--- the entry that a request makes with a number, at a moment
-abbrev pub entry_of : Request → ℕ → ℕ → Entry
-entry_of request moment number =
-    record {
-      number = number;
-      moment = moment;
-      caller = CALLER;
-      command = Create request.parent request.slug (content_of request);
-    }
-
--- One request with the moment at which it was read, and its answer.
-pub record Told : Type 0 where
-  pub request : Request
-  pub moment : ℕ
-  pub answer : Answer
-
--- what a decision makes of the answer and of the history
-abbrev pub ExchangedBy : Past → Told → Past → Result Reply Refusal → Type 0
-ExchangedBy past told after (Ok reply) =
-    let number = (tally_of past).number + 1 in
-    (told.answer ≡ accepted_as number reply)
-    × (after ≡ longer past (accepted (entry_of told.request told.moment number) reply))
-ExchangedBy past told after (Err refusal) = (told.answer ≡ refused_by refusal) × (after ≡ past)
-
--- After a history a request may get this answer, and this is the history then: it has one entry
--- more where the request was accepted.
-abbrev pub Exchange : Past → Told → Past → Type 0
-Exchange past told after = ExchangedBy past told after
-    (decide past (entry_of told.request told.moment))
+-- the user of a token: the one token that is known is user 1's
+abbrev pub user_of : Option (List ℕ) → Option ℕ
+user_of None = None
+user_of (Some token) = then_some (bytes_eq token KNOWN_TOKEN.now) 1
 
 -- a page can be made below the root alone, so far; below what is no page it is refused
-abbrev pub is_built : World → Request → Bool
-is_built world request = (request.parent == 1) || not (has_page request.parent world.part.tree)
+abbrev pub is_built : World → Command → Bool
+is_built world (Create parent slug content) =
+    (parent == 1) || not (has_page parent world.part.tree)
+is_built world _ = false
 
--- How the bytes that are left are judged: a request and what follows it; nothing; less than a
--- request, of so many bytes; or something that is not built.
-pub data Judged : Type 0 where
-  asks : (request : Request) (rest : List ℕ) → Judged
-  nothing_left : Judged
-  unfinished : (count : ℕ) → Judged
-  unbuilt : Judged
+-- the entry of a command by a user at a moment, with a number
+abbrev pub entry_of : ℕ → ℕ → Command → ℕ → Entry
+entry_of user moment command number =
+    record { number = number; moment = moment; caller = user; command = command }
 
--- the judgement by what stands at the front
-abbrev pub judge_front : World → ℕ → Front → Judged
-judge_front world count (whole request rest) = if is_built world request then asks request rest else
-    unbuilt
-judge_front world count part = unfinished count
-judge_front world count refused = unbuilt
+-- What a request comes to: its answer, and what is added to the history.
+pub record Outcome : Type 0 where
+  pub answer : Answer
+  pub added : List (Item Entry Reply)
 
--- the judgement on the bytes that are left in a world
-abbrev pub judge : World → List ℕ → Judged
-judge world [] = nothing_left
-judge world (b ∷ bytes) = judge_front world (length (b ∷ bytes)) (front (b ∷ bytes))
+-- an answer that adds nothing
+abbrev pub telling : Answer → Outcome
+telling answer = record { answer = answer; added = [] }
+
+-- an entry by what is decided of it: it is added where it is accepted
+abbrev pub decided : Entry → Result Reply Refusal → Outcome
+decided entry (Ok reply) =
+    record { answer = answers.Accepted entry.number reply; added = accepted entry reply ∷ [] }
+decided entry (Err refusal) = telling (answers.Refused refusal)
+
+-- what an entry gets after a history
+abbrev pub entered : Tally World → Entry → Outcome
+entered tally entry = decided entry (histories.reply_of step number_of (step tally.world entry))
+
+-- a command by a user at a moment
+abbrev pub run : Tally World → ℕ → ℕ → Command → Outcome
+run tally user moment command =
+    if is_built tally.world command
+    then entered tally (entry_of user moment command (tally.number + 1))
+    else telling answers.NotBuilt
+
+-- the card of a page, or that there is none
+abbrev pub card_told : ℕ → Option Card → Outcome
+card_told id (Some card) = telling (answers.Page card)
+card_told id None = telling (answers.Refused (NoPage id))
+
+-- what a call by a user comes to; no page is live yet, so that none is for everybody
+abbrev pub called : Tally World → ℕ → ℕ → Call → Outcome
+called tally user moment (Run command) = run tally user moment command
+called tally user moment (Page id) = card_told id (card_of tally.world id)
+called tally user moment (Public url) = telling answers.NotFound
+
+-- what a call comes to, where its user is known or not
+abbrev pub called_by : Tally World → ℕ → Call → Option ℕ → Outcome
+called_by tally moment call (Some user) = called tally user moment call
+called_by tally moment call None = telling answers.NoUser
+
+-- what a call comes to: what is for everybody asks for no token
+abbrev pub called_with : Tally World → ℕ → Option (List ℕ) → Call → Outcome
+called_with tally moment token (Public url) = telling answers.NotFound
+called_with tally moment token call = called_by tally moment call (user_of token)
+
+-- the answer to a request that asks nothing of the site
+abbrev pub fault_answer : RouteFault → Answer
+fault_answer faults.NotFound = answers.NotFound
+fault_answer faults.NotBuilt = answers.NotBuilt
+fault_answer (faults.Method allow) = answers.Method allow
+fault_answer faults.Form = answers.Form
+fault_answer faults.Memory = answers.Memory
+
+-- what a request comes to, by what it asks for
+abbrev pub asked : Tally World → ℕ → Option (List ℕ) → Result Call RouteFault → Outcome
+asked tally moment token (Ok call) = called_with tally moment token call
+asked tally moment token (Err fault) = telling (fault_answer fault)
+
+-- What a request at a moment comes to: route, method and form are tried first, and then the user.
+unfoldable pub exchange : Tally World → Request → ℕ → Outcome
+exchange tally request moment = asked tally moment request.token (call_of request)

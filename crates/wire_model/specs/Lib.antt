@@ -1,7 +1,6 @@
-pub mod Requests
+pub mod Routes
+pub mod Cards
 pub mod Answers
 pub mod Exchange
 pub mod Transcript
-pub mod Form
-pub mod Accepted
 pub mod Laws

@@ -1,4 +1,4 @@
--- Request by request the two transcripts agree.
+-- Each request and each answer is determined.
 use Rattle.wire_model.proofs.TranscriptLemmas.{longer_begins_with_shorter}
 use Rattle.wire_model.proofs.laws.longer_begins_with_shorter.Goals as goal
 

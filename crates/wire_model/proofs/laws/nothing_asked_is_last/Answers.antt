@@ -1,4 +1,4 @@
--- Nothing can go on where nothing is asked.
+-- No request goes on from there.
 use Rattle.wire_model.proofs.TranscriptLemmas.{nothing_asked_is_last}
 use Rattle.wire_model.proofs.laws.nothing_asked_is_last.Goals as goal
 

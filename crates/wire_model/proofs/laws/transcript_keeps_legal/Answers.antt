@@ -1,4 +1,4 @@
--- Each entry has the next number, and its reply is the step's.
+-- Each request adds what may stand.
 use Rattle.wire_model.proofs.TranscriptLemmas.{transcript_keeps_legal}
 use Rattle.wire_model.proofs.laws.transcript_keeps_legal.Goals as goal
 

@@ -1,4 +1,4 @@
--- Each request is asked with more bytes behind, too.
+-- What is whole stays so.
 use Rattle.wire_model.proofs.TranscriptLemmas.{transcript_stays}
 use Rattle.wire_model.proofs.laws.transcript_stays.Goals as goal
 

@@ -1,0 +1,4 @@
+pub mod Periods
+pub mod Calendar
+pub mod Civil
+pub mod TimeText

@@ -1,0 +1,28 @@
+//! Laws of requests at the front of bytes. Each is a function that does nothing: its contract is
+//! the law.
+ghost use Rattle.http_model.specs.Laws.{OneFront, WholeStays, RefusedStays, PartIsShort, AWholeTakesBytes};
+
+/// Bytes have one front.
+pub fn one_front()
+    ensures { OneFront }
+{}
+
+/// A whole request stays so with more bytes behind it.
+pub fn whole_stays()
+    ensures { WholeStays }
+{}
+
+/// What is refused stays so with more bytes behind it.
+pub fn refused_stays()
+    ensures { RefusedStays }
+{}
+
+/// What is only a part of a request is shorter than `MAX_HEAD + MAX_BODY`.
+pub fn part_is_short()
+    ensures { PartIsShort }
+{}
+
+/// A whole request takes at least one byte.
+pub fn a_whole_takes_bytes()
+    ensures { AWholeTakesBytes }
+{}

@@ -1,0 +1,6 @@
+pub mod OptionLemmas
+pub mod LimitLemmas
+pub mod MemberLemmas
+pub mod BlockLemmas
+pub mod ContentLemmas
+mod Examples

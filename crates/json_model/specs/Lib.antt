@@ -1,0 +1,4 @@
+pub mod Members
+pub mod Limits
+pub mod Content
+pub mod Laws

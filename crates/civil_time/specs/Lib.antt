@@ -2,3 +2,4 @@ pub mod Periods
 pub mod Calendar
 pub mod Civil
 pub mod TimeText
+pub mod Laws

@@ -150,7 +150,10 @@ home_head =
 is_field : (name raw : List ℕ) → 0 < length name → list_all is_token_byte name ≡ true →
     list_all is_value_byte raw ≡ true → IsField (field_of name raw)
 is_field name raw some named value =
-    record { name = (some, all_pass is_token_byte name named); raw = all_pass is_value_byte raw value }
+    record {
+      name = (some, all_pass is_token_byte name named);
+      raw = all_pass is_value_byte raw value;
+    }
 
 -- a POST is read where its fields are fields
 post_is_read : (fields : List Field) → All IsField fields → length fields ≤ 2 →
@@ -231,7 +234,8 @@ lengths_are_fields =
 lengths_are_refused : IsFront (print_request (post_of lengths_are_fields)) (refused 400)
 unfolding front_of_head values_named httparse_on_literals
 lengths_are_refused =
-    front_of_read (print_request (post_of lengths_are_fields)) 64 (post_of lengths_are_fields) refl refl
+    front_of_read (print_request (post_of lengths_are_fields)) 64 (post_of lengths_are_fields) refl
+    refl
     (post_is_read lengths_are_fields
     (two_are (field_of (codes "Content-Length") (codes "5"))
     (field_of (codes "content-length") (codes "5"))
@@ -247,7 +251,8 @@ long_body_is_fields =
 long_body_is_refused : IsFront (print_request (post_of long_body_is_fields)) (refused 413)
 unfolding front_of_head values_named httparse_on_literals
 long_body_is_refused =
-    front_of_read (print_request (post_of long_body_is_fields)) 52 (post_of long_body_is_fields) refl refl
+    front_of_read (print_request (post_of long_body_is_fields)) 52 (post_of long_body_is_fields)
+    refl refl
     (post_is_read long_body_is_fields
     (one_is (field_of (codes "Content-Length") (codes " 262145"))
     (is_field (codes "Content-Length") (codes " 262145") (omega arith) refl refl)) (omega arith))
@@ -311,7 +316,8 @@ unfolding response_text digits
 unauthorized_text = refl
 
 -- the answer to another method than the route's
-method_text : response_text (record { status = MethodNotAllowed; body = []; allow = Some allow_get })
+method_text : response_text
+    (record { status = MethodNotAllowed; body = []; allow = Some allow_get })
     false ≡ line (codes "HTTP/1.1 405 Method Not Allowed") ++ line (codes "Content-Length: 0")
     ++ line (codes "Content-Type: application/json") ++ line (codes "Allow: GET") ++ line_end
 unfolding response_text digits

@@ -1,3 +1,5 @@
 pub mod HeadLemmas
 pub mod FrontLemmas
+pub mod FinalLemmas
+pub mod BoundLemmas
 mod Examples

@@ -45,7 +45,7 @@ length_in (value ∷ other ∷ more) = None
 abbrev pub body_length : List Header → Option ℕ
 body_length headers = length_in (values_named CONTENT_LENGTH_NAME.now headers)
 
--- there is no field of this name
+-- there are no values
 abbrev pub is_empty : List (List ℕ) → Bool
 is_empty values = length values == 0
 
@@ -84,13 +84,13 @@ token_among (value ∷ other ∷ more) = None
 abbrev pub token_of : List Header → Option (List ℕ)
 token_of headers = token_among (values_named AUTHORIZATION_NAME.now headers)
 
--- the comma-separated members of a value, without the spaces and tabs around each
-abbrev pub members : List ℕ → List (List ℕ)
-members value = map trim_ows (slice_split (λ b. b == comma) value)
+-- a member is `close` in any case, without the spaces and tabs around it
+abbrev pub is_close : List ℕ → Bool
+is_close member = is_same_word (trim_ows member) CLOSE.now
 
--- a member of the value is `close`, in any case
+-- a comma-separated member of the value is `close`
 unfoldable pub has_close : List ℕ → Bool
-has_close value = list_any (λ member. is_same_word member CLOSE.now) (members value)
+has_close value = list_any is_close (slice_split (λ b. b == comma) value)
 
 -- a field `Connection` asks for the end of the connection
 abbrev pub asks_for_closing : List Header → Bool

@@ -1,5 +1,5 @@
 -- The laws of requests at the front of bytes, each proved in src/laws.rt.
-use Rattle.std.specs.Prelude.{◌≡◌, ℕ, ◌+◌, ◌<◌, List, ◌++◌, length}
+use Rattle.std.specs.Prelude.{◌≡◌, ℕ, ◌+◌, ◌<◌, ◌⊎◌, List, ◌++◌, length}
 use Rattle.http_model.specs.declared.words.TheConstants.{MAX_HEAD, MAX_BODY}
 use Rattle.http_model.specs.Requests.{Request, Front, whole, part, refused, IsFront}
 
@@ -26,3 +26,8 @@ PartIsShort = (bytes : List ℕ) → IsFront bytes part → length bytes < MAX_H
 abbrev pub AWholeTakesBytes : Type 0
 AWholeTakesBytes = (bytes rest : List ℕ) (request : Request) →
     IsFront bytes (whole request rest) → length rest < length bytes
+
+-- what is refused is refused with 400, 413 or 431
+abbrev pub ARefusalHasItsStatus : Type 0
+ARefusalHasItsStatus = (bytes : List ℕ) (status : ℕ) → IsFront bytes (refused status) →
+    (status ≡ 400) ⊎ ((status ≡ 413) ⊎ (status ≡ 431))

@@ -92,7 +92,9 @@ abbrev pub front_of_body : RequestHead → List ℕ → ℕ → Front
 front_of_body head rest n =
     if nat_lt MAX_BODY n
     then refused 413
-    else (if nat_lt (length rest) n then part else whole (request_of head (take n rest)) (drop n rest))
+    else (if nat_lt (length rest) n
+    then part
+    else whole (request_of head (take n rest)) (drop n rest))
 
 -- the same where the length of the body may be unknown, which is refused with 400
 abbrev pub front_of_length : RequestHead → List ℕ → Option ℕ → Front
@@ -114,8 +116,8 @@ IsReadAs bytes head = ReadsRequest bytes head [] × (length head.fields ≤ MAX_
 abbrev pub IsUnreadable : List ℕ → Type 0
 IsUnreadable bytes = (head : RequestHead) → IsReadAs bytes head → ⊥
 
--- the front where these bytes end as a head and so do not go on: by the head that they are, or 400
--- where they are none
+-- the front by the bytes of the head and those behind it: what the head makes, or 400 where it is
+-- none of the grammar
 abbrev pub IsReadFront : List ℕ → List ℕ → Front → Type 0
 IsReadFront bytes rest front =
     ((head : RequestHead) × IsReadAs bytes head × (front ≡ front_of_head head rest))
@@ -125,10 +127,15 @@ IsReadFront bytes rest front =
 abbrev pub line_ends : List ℕ → ℕ
 line_ends bytes = count_by (λ b. b == line_feed) bytes
 
--- the same, where it is known whether they have too many lines, which is refused with 431
+-- the same where the head may have too many lines, which is refused with 431 before it is read
 abbrev pub IsLinedFront : List ℕ → List ℕ → Front → Bool → Type 0
 IsLinedFront bytes rest front true = front ≡ refused 431
 IsLinedFront bytes rest front false = IsReadFront bytes rest front
+
+-- the front where the bytes of the head and those behind it are known
+abbrev pub IsHeadFront : List ℕ → List ℕ → Front → Type 0
+IsHeadFront bytes rest front =
+    IsLinedFront bytes rest front (nat_lt MAX_LINE_ENDS (line_ends bytes))
 
 -- the front of bytes by the length of their head: where there is no head yet they are a part, and
 -- refused with 431 once they are too many
@@ -136,7 +143,7 @@ abbrev pub IsFrontBy : List ℕ → Front → Option ℕ → Type 0
 IsFrontBy bytes front None =
     front ≡ (if nat_lt (length bytes) MAX_HEAD then part else refused 431)
 IsFrontBy bytes front (Some n) =
-    IsLinedFront (take n bytes) (drop n bytes) front (nat_lt MAX_LINE_ENDS (line_ends (take n bytes)))
+    IsHeadFront (take n bytes) (drop n bytes) front
 
 -- The front of the bytes. The head is looked for in the first 16,384 bytes.
 unfoldable pub IsFront : List ℕ → Front → Type 0

@@ -1,6 +1,6 @@
 //! Laws of requests at the front of bytes. Each is a function that does nothing: its contract is
 //! the law.
-ghost use Rattle.http_model.specs.Laws.{OneFront, WholeStays, RefusedStays, PartIsShort, AWholeTakesBytes};
+ghost use Rattle.http_model.specs.Laws.{OneFront, WholeStays, RefusedStays, PartIsShort, AWholeTakesBytes, ARefusalHasItsStatus};
 
 /// Bytes have one front.
 pub fn one_front()
@@ -25,4 +25,9 @@ pub fn part_is_short()
 /// A whole request takes at least one byte.
 pub fn a_whole_takes_bytes()
     ensures { AWholeTakesBytes }
+{}
+
+/// What is refused is refused with 400, 413 or 431.
+pub fn a_refusal_has_its_status()
+    ensures { ARefusalHasItsStatus }
 {}

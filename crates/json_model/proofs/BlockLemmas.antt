@@ -1,8 +1,7 @@
 -- The form of a block, read and written.
-use Rattle.std.proofs.Common.{◌≡◌, ℕ, ◌≤◌, Bool, true, false, List, [], ◌∷◌, All, map, Option, Some, None, option_map, option_and_then, refl, sym, ap, subst, ⊎_elim}
-use Rattle.serde_json.specs.Data.{Data, unsigned, number, string, array, object, no_members, member}
+use Rattle.std.proofs.Common.{◌≡◌, ℕ, true, List, [], ◌∷◌, Option, Some, None, option_map, option_and_then, refl, sym, ap, subst, ⊎_elim}
+use Rattle.serde_json.specs.Data.{Data, unsigned, number, string}
 use Rattle.serde_json.specs.Find.{get, as_str}
-use Rattle.serde_json.specs.View.{items_of}
 use Rattle.site_ids.specs.declared.ids.TheConstants.{LAST_PAGE_ID}
 use Rattle.site_types.specs.Ids.{IsPageId}
 use Rattle.site_types.specs.declared.block.Block.{Block}

@@ -1,14 +1,12 @@
 -- The form of a content, read and written.
-use Rattle.std.proofs.Common.{◌≡◌, ℕ, true, List, [], ◌∷◌, All, map, Option, Some, None, option_and_then, refl, sym, ap, subst, ⊎_elim}
-use Rattle.serde_json.specs.Data.{Data, string, array, object, no_members, member}
+use Rattle.std.proofs.Common.{◌≡◌, [], ◌∷◌, All, Some, None, refl, sym, subst, ⊎_elim}
+use Rattle.serde_json.specs.Data.{Data, object, no_members, member}
 use Rattle.serde_json.specs.Find.{as_str}
-use Rattle.serde_json.specs.View.{items_of}
 use Rattle.site_types.specs.Content.{ContentValue, FitsLimits}
-use Rattle.site_types.specs.declared.block.Block.{Block}
 use Rattle.json_model.specs.declared.words.TheConstants.{MEMBER_BLOCKS, MEMBER_TITLE}
 use Rattle.json_model.specs.Content.{block_of, block_data, content_of, content_data, within_limits}
 use Rattle.json_model.specs.Limits.{LinksToId, fits_limits}
-use Rattle.json_model.specs.Members.{has_exactly, list_of, each_of}
+use Rattle.json_model.specs.Members.{has_exactly, list_of}
 use Rattle.json_model.proofs.OptionLemmas.{and_then_gives, then_some_gives, choice_gives}
 use Rattle.json_model.proofs.LimitLemmas.{fits_limits_decides}
 use Rattle.json_model.proofs.MemberLemmas.{two_members, text_form, each_reads_back, list_has_one_form, list_has}
@@ -18,7 +16,8 @@ use Rattle.json_model.proofs.BlockLemmas.{block_reads_back, block_right}
 pub reads_back : (content : ContentValue) → FitsLimits content → All LinksToId content.blocks →
     content_of (content_data content) ≡ Some content
 reads_back content fits links =
-    let blocks = each_reads_back block_of block_data LinksToId block_reads_back content.blocks links in
+    let blocks =
+    each_reads_back block_of block_data LinksToId block_reads_back content.blocks links in
     let within = (fits_limits_decides content).1 fits in
     rw (blocks, within) refl
 
@@ -43,7 +42,7 @@ both_right blocks title content e =
     let within = then_some_gives (fits_limits made) made content list.2 in
     let title_is = text_form title text.0 text.1 in
     let blocks_is =
-        list_has_one_form block_of block_data (λ v b e. (block_right v b e).0) blocks list.0 list.1 in
+    list_has_one_form block_of block_data (λ v b e. (block_right v b e).0) blocks list.0 list.1 in
     let links = list_has block_of LinksToId (λ v b e. (block_right v b e).1) blocks list.0 list.1 in
     let form : both blocks title ≡ content_data made = cc in
     let P : ContentValue → Type 0 = λ c. IsRight (both blocks title) c in

@@ -3,4 +3,5 @@ pub mod LimitLemmas
 pub mod MemberLemmas
 pub mod BlockLemmas
 pub mod ContentLemmas
+pub mod TextLemmas
 mod Examples

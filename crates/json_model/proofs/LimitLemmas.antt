@@ -1,7 +1,7 @@
 -- The tests of limits say whether the limits are kept.
-use Rattle.std.proofs.Common.{◌≡◌, ℕ, ◌≤◌, ◌<◌, Bool, true, false, ◌&&◌, List, [], ◌∷◌, length, All, nat_le, Decides, refl, arith}
+use Rattle.std.proofs.Common.{ℕ, ◌≤◌, List, length, All, nat_le, Decides, refl, arith}
 use Rattle.std.specs.List.{list_all}
-use Rattle.std.proofs.lemmas.Bool.Decides.{nat_tests, Decides-and, Decides-like, Decides-by_and}
+use Rattle.std.proofs.lemmas.Bool.Decides.{nat_tests, Decides-and, Decides-by_and}
 use Rattle.site_types.specs.Content.{ContentValue, FitsLimits, FitsBlock, content_form}
 use Rattle.site_types.specs.declared.block.Block.{Block}
 use Rattle.site_types.specs.declared.block.Block.TheVariants.{Heading, Paragraph, Items, Page}
@@ -43,15 +43,17 @@ fits_limits_decides content =
     let form = nat_le_decides (length (content_form content)) MAX_CONTENT_BYTES in
     let tests = Decides-and _ _ title (Decides-and _ _ count (Decides-and _ _ lists form)) in (
       λ e.
-        let facts = tests.0 e in
-        record {
-          title_not_empty = facts.0.0;
-          title_fits = facts.0.1;
-          blocks_fit = facts.1.0;
-          lists_fit = facts.1.1.0;
-          form_fits = facts.1.1.1;
-        },
+          let facts = tests.0 e in
+          record {
+            title_not_empty = facts.0.0;
+            title_fits = facts.0.1;
+            blocks_fit = facts.1.0;
+            lists_fit = facts.1.1.0;
+            form_fits = facts.1.1.1;
+          },
       λ fits.
-        tests.1
-        ((fits.title_not_empty, fits.title_fits), (fits.blocks_fit, (fits.lists_fit, fits.form_fits))),
+          tests.1 (
+            (fits.title_not_empty, fits.title_fits),
+            (fits.blocks_fit, (fits.lists_fit, fits.form_fits)),
+          ),
     )

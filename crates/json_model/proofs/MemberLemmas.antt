@@ -1,9 +1,9 @@
 -- What is known of a value whose members, items or kind were tested.
-use Rattle.std.proofs.Common.{◌≡◌, ℕ, Bool, true, false, ◌&&◌, List, [], ◌∷◌, All, map, bytes_eq, Option, Some, None, option_map, option_and_then, refl, sym, ap}
+use Rattle.std.proofs.Common.{◌≡◌, ℕ, true, List, [], ◌∷◌, All, map, bytes_eq, Option, Some, refl, ap}
 use Rattle.std.specs.Cmp.{first_so, second_so}
 use Rattle.std.proofs.lemmas.List.Elements.{All-nil, All-cons, All-head, All-tail}
 use Rattle.std.proofs.lemmas.Slice.Eq.{bytes_eq-Decides}
-use Rattle.serde_json.specs.Data.{Data, null, boolean, unsigned, negative, float, number, string, array, object, Items, no_items, item, Members, no_members, member}
+use Rattle.serde_json.specs.Data.{Data, unsigned, number, string, array, object, Items, no_items, item, Members, no_members, member}
 use Rattle.serde_json.specs.Find.{as_str, as_array}
 use Rattle.serde_json.specs.View.{items_of}
 use Rattle.json_model.specs.Members.{are_named, has_exactly, each_of, list_of, whole_of}
@@ -22,7 +22,7 @@ first_member : (wanted : List ℕ) (names : List (List ℕ)) (members : Members)
 first_member wanted names no_members e = absurd (cc)
 first_member wanted names (member name value rest) e =
     let same : name ≡ wanted =
-        (bytes_eq-Decides name wanted).0 (first_so (bytes_eq name wanted) _ e) in
+    (bytes_eq-Decides name wanted).0 (first_so (bytes_eq name wanted) _ e) in
     (value, rest, ap (λ n. member n value rest) same, second_so (bytes_eq name wanted) _ e)
 
 -- a value with one member

@@ -12,8 +12,8 @@ use Rattle.json_model.specs.declared.words.TheConstants.{MEMBER_BLOCKS, MEMBER_T
 use Rattle.json_model.specs.Limits.{fits_limits}
 use Rattle.json_model.specs.Members.{has_exactly, text_at, list_of, id_of}
 
--- a block: an object of one member, which is a heading or a paragraph with a text, a list with texts,
--- or a page with its id
+-- a block: an object of one member, which is a heading or a paragraph with a text, a list with
+-- texts, or a page with its id
 abbrev pub block_of : Data → Option Block
 block_of value =
     if has_exactly (MEMBER_HEADING.now ∷ []) value

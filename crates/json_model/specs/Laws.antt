@@ -1,6 +1,7 @@
 -- The laws of the JSON form of contents, each proved in src/laws.rt.
-use Rattle.std.specs.Prelude.{◌≡◌, Some, All}
-use Rattle.serde_json.specs.Data.{Data}
+use Rattle.std.specs.Prelude.{◌≡◌, ◌≤◌, false, Some, All}
+use Rattle.serde_json.specs.Data.{Data, depth}
+use Rattle.serde_json.specs.Written.{has_float}
 use Rattle.site_types.specs.Content.{ContentValue, FitsLimits}
 use Rattle.json_model.specs.Content.{content_of, content_data}
 use Rattle.json_model.specs.Limits.{LinksToId}
@@ -22,3 +23,11 @@ abbrev pub ContentKeepsLimits : Type 0
 ContentKeepsLimits =
     (value : Data) (content : ContentValue) →
     content_of value ≡ Some content → FitsLimits content × All LinksToId content.blocks
+
+-- arrays and objects nest in a content at most four deep: the content, its blocks, a block, a list
+abbrev pub ContentIsShallow : Type 0
+ContentIsShallow = (content : ContentValue) → depth (content_data content) ≤ 4
+
+-- no number of a content is a float, so its text is determined
+abbrev pub ContentHasNoFloat : Type 0
+ContentHasNoFloat = (content : ContentValue) → has_float (content_data content) ≡ false

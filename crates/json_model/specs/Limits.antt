@@ -1,5 +1,5 @@
 -- The limits of a content as tests, and the links in it.
-use Rattle.std.specs.Prelude.{ℕ, ◌≤◌, ◌&&◌, nat_le, Bool, true, List, length}
+use Rattle.std.specs.Prelude.{◌&&◌, nat_le, Bool, true, length}
 use Rattle.std.specs.List.{list_all}
 use Rattle.site_types.specs.Content.{ContentValue, content_form}
 use Rattle.site_types.specs.Ids.{IsPageId}
@@ -13,8 +13,8 @@ abbrev pub fits_block : Block → Bool
 fits_block (Items texts) = is_within 1 MAX_LIST_TEXTS (length texts)
 fits_block _ = true
 
--- whether a content keeps its limits: a title of 1 to 255 bytes, at most 1,000 blocks, lists of 1 to
--- 1,000 texts, and a byte form of at most 65,536 bytes
+-- whether a content keeps its limits: a title of 1 to 255 bytes, at most 1,000 blocks, lists of 1
+-- to 1,000 texts, and a byte form of at most 65,536 bytes
 abbrev pub fits_limits : ContentValue → Bool
 fits_limits content =
     is_within 1 MAX_TITLE_BYTES (length content.title)

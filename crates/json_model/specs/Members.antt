@@ -1,6 +1,6 @@
--- The members of a JSON object (RFC 8259) and the values in them, over the data of a value, which has
--- each member once, in the byte order of the names.
-use Rattle.std.specs.Prelude.{ℕ, ◌==◌, ◌&&◌, nat_le, Bool, true, false, List, [], ◌∷◌, length, bytes_eq, Option, Some, None, option_map, option_and_then, if◌then◌else◌}
+-- The members of a JSON object (RFC 8259) and the values in them, over the data of a value, which
+-- has each member once, in the byte order of the names.
+use Rattle.std.specs.Prelude.{ℕ, ◌&&◌, nat_le, Bool, true, false, List, [], ◌∷◌, length, bytes_eq, Option, Some, option_map, option_and_then}
 use Rattle.std.specs.Bool.{then_some}
 use Rattle.std.specs.List.{list_all}
 use Rattle.serde_json.specs.Data.{Data, object, Items, no_items, item, Members, no_members, member}
@@ -25,7 +25,8 @@ has_exactly names _ = false
 abbrev pub text_at : List ℕ → Data → Option (List ℕ)
 text_at name value = option_and_then as_str (get name value)
 
--- a whole number that is not negative: digits alone, below 2^64; `1.0`, `1e0`, `-0` and `-1` are none
+-- a whole number that is not negative: digits alone, below 2^64; `1.0`, `1e0`, `-0` and `-1` are
+-- none
 abbrev pub whole_of : Data → Option ℕ
 whole_of value = option_and_then as_u64 (as_number value)
 

@@ -16,7 +16,6 @@ use Rattle.step_path.proofs.PathLemmas.{IsPathText-path_text, steps_of-path_text
 use Rattle.site_types.specs.declared.body.Body.{Body}
 use Rattle.site_types.specs.declared.reply.Reply.TheVariants.{Page}
 use Rattle.site_model.specs.Create.{fresh_body, page_reply}
-use Rattle.wire_model.specs.Exchange.{CALLER}
 use Rattle.page_store.specs.PageRows.{seen_row, parent_id, IsNewRow}
 use Rattle.pagetree.specs.Standing.{fresh_row}
 use Rattle.pagetree.proofs.SiteLemmas.{slug_in_rows}
@@ -92,7 +91,7 @@ below_root step is = record {
   );
 }
 
-module _ (root : Body) (kids : Forest Body) (id step revision : ℕ) (slug : List ℕ) (apart : AllIds
+module _ (root : Body) (kids : Forest Body) (owner id step revision : ℕ) (slug : List ℕ) (apart : AllIds
     (λ i. i ≡ 1 → ⊥) kids)
     (below : AllIds (λ i. i < id) kids) (rising : AreRising 0 kids) (step_is : step ≡ last_step 0 kids + 1)
     (is_step : IsStep step) (late : 1 < id) where
@@ -111,7 +110,7 @@ module _ (root : Body) (kids : Forest Body) (id step revision : ℕ) (slug : Lis
 
   -- the new row may be put in
   pub new_row_fits : kid_with_slug slug kids ≡ None →
-      IsNewRow (rows_of (rooted root kids)) (fresh_row id revision step slug)
+      IsNewRow (rows_of (rooted root kids)) (fresh_row owner id revision step slug)
   new_row_fits free =
       let path = below_root step is_step in
       let reads = steps_of-path_text (1 ∷ step ∷ []) path.steps in
@@ -131,27 +130,27 @@ module _ (root : Body) (kids : Forest Body) (id step revision : ℕ) (slug : Lis
       }
 
   -- the rows with the new one are those of the tree with the new page
-  pub rows_with_new : with_row (seen_row (fresh_row id revision step slug) (parent_id (steps_of
-      (fresh_row id revision step slug).path) (rows_of (rooted root kids))) (child_url (SLASH ∷ [])
-      slug)) (rows_of (rooted root kids)) ≡ rows_of (graft 1 End (grown id 1 slug (fresh_body CALLER
+  pub rows_with_new : with_row (seen_row (fresh_row owner id revision step slug) (parent_id (steps_of
+      (fresh_row owner id revision step slug).path) (rows_of (rooted root kids))) (child_url (SLASH ∷ [])
+      slug)) (rows_of (rooted root kids)) ≡ rows_of (graft 1 End (grown id 1 slug (fresh_body owner
       revision) bare bare) (rooted root kids))
   rows_with_new =
       let path = below_root step is_step in
       let reads = steps_of-path_text (1 ∷ step ∷ []) path.steps in
       let pages = rows_of (rooted root kids) in
       let url = child_url (SLASH ∷ []) slug in
-      let body = fresh_body CALLER revision in
+      let body = fresh_body owner revision in
       ap (λ (p : List ℕ). with_row (leaf_row id (parent_id p pages) p url slug body) pages) reads
       ∙ (ap (λ (s : ℕ). with_row (leaf_row id (Some 1) (1 ∷ s ∷ []) url slug body) pages) step_is
       ∙ sym (rows_of-append id 1 slug body root kids apart rising))
 
   -- the reply tells the path and the URL of the new page
-  pub reply_of_new : page_reply id (graft 1 End (grown id 1 slug (fresh_body CALLER revision) bare
+  pub reply_of_new : page_reply id (graft 1 End (grown id 1 slug (fresh_body owner revision) bare
       bare) (rooted root kids)) ≡ Page id (path_text (1 ∷ step ∷ [])) (child_url (SLASH ∷ []) slug)
   reply_of_new =
       let other : id ≡ 1 → ⊥ = λ is. omega arith in
       rw (
-        path_of-append id 1 slug (fresh_body CALLER revision) root kids other new_id,
-        url_of-append id 1 slug (fresh_body CALLER revision) root kids other new_id,
+        path_of-append id 1 slug (fresh_body owner revision) root kids other new_id,
+        url_of-append id 1 slug (fresh_body owner revision) root kids other new_id,
         step_is,
       ) refl

@@ -1,10 +1,12 @@
-pub mod FormLemmas
-pub mod HeldLemmas
-pub mod SiteLemmas
+pub mod AnswerLemmas
 pub mod CreationLemmas
 pub mod CommitLemmas
-pub mod TranscriptLemmas
+pub mod RevisionLemmas
+pub mod CardLemmas
 pub mod ExchangeLemmas
-pub mod SoFarLemmas
+pub mod HeldLemmas
 pub mod SessionLemmas
+pub mod SiteLemmas
+pub mod SoFarLemmas
+pub mod TranscriptLemmas
 pub mod WordLemmas

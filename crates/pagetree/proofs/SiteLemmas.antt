@@ -1,11 +1,7 @@
 -- What the rows of a site say of the world that it stands for, before a creation and after it.
-use Rattle.std.proofs.Common.{◌≡◌, ◌≤◌, ◌<◌, ◌+◌, ℕ, Bool, true, false, not, ◌||◌, List, [], ◌∷◌, ◌++◌, Option, Some, None, Ok, Err, is_some, cond, nat_eq, refl, sym, ap, subst, ◌∙◌, arith, IsTrue, ◌&&◌, length, length-append, get_or, suc, zero}
+use Rattle.std.proofs.Common.{◌≡◌, ◌≤◌, ◌<◌, ◌+◌, ℕ, Bool, true, false, not, ◌||◌, ◌==◌, List, [], ◌∷◌, ◌++◌, Option, Some, None, Ok, Err, is_some, cond, nat_eq, refl, sym, ap, subst, ◌∙◌, arith, IsTrue, ◌&&◌, length, length-append, get_or, suc, zero}
 use Rattle.std.specs.Borrow.{Bor}
 use Rattle.std.specs.Option.{option_copied, option_map}
-use Rattle.std.specs.List.{AllByRecursion, list_all}
-use Rattle.std.specs.Str.{IsUtf8}
-use Rattle.std.proofs.lemmas.Str.{IsUtf8-from_ascii}
-use Rattle.std.proofs.lemmas.List.Elements.{All-nil}
 use Rattle.std.proofs.lemmas.Bool.Decides.{nat_tests}
 use Rattle.std.proofs.lemmas.List.{append-nil}
 use Rattle.page_tree.specs.Tree.{Forest, has_page, kids_of, kid_with_slug, AllIds}
@@ -19,17 +15,22 @@ use Rattle.page_store.specs.PageRows.{page_row}
 use Rattle.site_types.specs.declared.refusal.Refusal.{Refusal}
 use Rattle.site_types.specs.declared.refusal.Refusal.TheVariants.{NoPage, SlugTaken}
 use Rattle.site_types.specs.declared.reply.Reply.{Reply}
-use Rattle.site_types.specs.Content.{FitsLimits, FitsBlock, content_of}
-use Rattle.site_types.specs.declared.block.Block.{Block}
-use Rattle.site_history.specs.History.{Tally}
+use Rattle.site_types.specs.Content.{ContentValue}
+use Rattle.site_types.specs.declared.command.Command.{Command}
+use Rattle.site_types.specs.declared.command.Command.TheVariants.{Create}
+use Rattle.site_types.specs.declared.entry.Entry.{Entry}
+use Rattle.site_history.specs.History.{Tally, accepted}
+use Rattle.public_view.specs.declared.card.Card.{Card}
+use Rattle.wire_model.specs.declared.answer.Answer.{Answer}
 use Rattle.site_model.specs.World.{World}
 use Rattle.site_model.specs.Create.{create_refusal, or_then, created, page_reply}
 use Rattle.site_model.specs.Step.{step, tree_step, without_desks}
-use Rattle.wire_model.specs.Requests.{Request, is_title_byte}
-use Rattle.wire_model.specs.Exchange.{CALLER, content_of as asked_content, entry_of}
+use Rattle.wire_model.specs.declared.answer.Answer.TheVariants.{Accepted, Refused, NotBuilt, Page as CardTold}
+use Rattle.wire_model.specs.Cards.{card_of}
+use Rattle.wire_model.specs.Exchange.{Outcome, telling, number_of, is_built, entry_of, entered, run, card_told}
 use Rattle.pagetree.specs.declared.site.Site.{Site}
-use Rattle.pagetree.specs.declared.answer.Answer.TheVariants.{Accepted, Refused}
-use Rattle.pagetree.specs.Standing.{StandsFor, IsReady, Creates, CanCommit, Answers, AnsweredBy}
+use Rattle.pagetree.specs.declared.creation.Creation.{Creation}
+use Rattle.pagetree.specs.Standing.{StandsFor, IsYoung, IsReady, IsTaken, command_of, after_creation, Creates, CanCommit, tally_with, Answers}
 
 -- a row is found where the page is there
 pub found_row : (found : Option (Bor PageRow)) (id : ℕ) (tree : Forest Body) (pages : List (Row
@@ -70,31 +71,30 @@ built_at_root : (id : ℕ) (there : Bool) → there ≡ true → IsTrue (nat_eq 
 built_at_root id true is built = grind (arith, nat_tests)
 built_at_root id false is built = cc
 
-module _ (site : Site) (tally : Tally World) (request : Request) (ready : IsReady site tally request) where
-  -- where the parent is there, it is the root
-  pub parent_is_root : has_page request.parent tally.world.part.tree ≡ true → request.parent ≡ 1
-  parent_is_root there =
-      built_at_root request.parent (has_page request.parent tally.world.part.tree) there ready.built
+-- where the parent of a creation is there, it is the root
+pub parent_is_root : (tally : Tally World) (parent : ℕ) → IsTaken tally parent →
+    has_page parent tally.world.part.tree ≡ true → parent ≡ 1
+parent_is_root tally parent taken there =
+    built_at_root parent (has_page parent tally.world.part.tree) there taken
 
+module _ (site : Site) (tally : Tally World) (parent : ℕ) (slug : List ℕ)
+    (ready : IsReady site tally) (taken : IsTaken tally parent) where
   -- the slug is looked for among the root's children
-  slug_of_root : kid_named 1 request.slug site.rows.pages ≡ kid_with_slug request.slug (kids_of 1
-      tally.world.part.tree)
+  slug_of_root : kid_named 1 slug site.rows.pages ≡
+      kid_with_slug slug (kids_of 1 tally.world.part.tree)
   slug_of_root =
-      rw (
-        ready.stands.pages,
-        ready.young.tree,
-      ) (slug_in_rows ready.young.root ready.young.kids request.slug
-      ready.young.apart)
+      rw (ready.stands.pages, ready.young.tree)
+      (slug_in_rows ready.young.root ready.young.kids slug ready.young.apart)
 
-  -- where the parent is there, the request is refused where a page below it has the slug
-  pub refusal_there : has_page request.parent tally.world.part.tree ≡ true →
-      option_map SlugTaken (kid_named request.parent request.slug site.rows.pages) ≡ create_refusal
-      tally.world.part request.parent request.slug
+  -- where the parent is there, the creation is refused where a page below it has the slug
+  pub refusal_there : has_page parent tally.world.part.tree ≡ true →
+      option_map SlugTaken (kid_named parent slug site.rows.pages) ≡
+      create_refusal tally.world.part parent slug
   refusal_there there =
-      let root = parent_is_root there in
+      let root = parent_is_root tally parent taken there in
       rw (there, root) (ap (option_map SlugTaken) slug_of_root)
 
--- a request that no rule refuses: the page is there, and nothing refuses it later
+-- a creation that no rule refuses: the page is there, and nothing refuses it later
 not_refused : (t : Bool) (later : Option Refusal) (id : ℕ) →
     or_then (cond t None (Some (NoPage id))) later ≡ None → (t ≡ true) × (later ≡ None)
 not_refused true later id h = (refl, h)
@@ -105,14 +105,14 @@ none_mapped : {X Y : Type 0} (f : X → Y) (o : Option X) → option_map f o ≡
 none_mapped f None h = refl
 none_mapped f (Some x) h = cc
 
--- a request that no rule refuses can be committed
-pub can_commit : (site : Site) (tally : Tally World) (request : Request) (url : List ℕ) →
-    IsReady site tally request →
-    create_refusal tally.world.part request.parent request.slug ≡ None →
-    url ≡ child_url (SLASH ∷ []) request.slug → CanCommit site tally request url
-can_commit site tally request url ready none is =
-    let both = not_refused (has_page request.parent tally.world.part.tree) _ request.parent none in
-    let root = parent_is_root site tally request ready both.0 in
+-- a creation that no rule refuses can be committed
+pub can_commit : (site : Site) (tally : Tally World) (creation : Creation) (url : List ℕ) →
+    IsReady site tally → IsTaken tally creation.parent →
+    create_refusal tally.world.part creation.parent creation.slug ≡ None →
+    url ≡ child_url (SLASH ∷ []) creation.slug → CanCommit site tally creation url
+can_commit site tally creation url ready taken none is =
+    let both = not_refused (has_page creation.parent tally.world.part.tree) _ creation.parent none in
+    let root = parent_is_root tally creation.parent taken both.0 in
     record {
       ready = ready;
       at_root = root;
@@ -136,109 +136,149 @@ stands_too site other tally pages revisions time page revision last number stand
   number = number ∙ stands.number;
 }
 
--- what the step makes of a creation that is refused
-step_refused : (world : World) (request : Request) (moment number : ℕ) (refusal : Refusal) →
-    create_refusal world.part request.parent request.slug ≡ Some refusal →
-    step world (entry_of request moment number) ≡ Err refusal
-unfolding step tree_step
-step_refused world request moment number refusal is = rw is refl
 
--- what the step makes of one that is not
-step_created : (world : World) (request : Request) (moment number : ℕ) →
-    create_refusal world.part request.parent request.slug ≡ None →
-    step world (entry_of request moment number) ≡ Ok (
-      record {
-        part =
-            created world.part moment CALLER request.parent request.slug (asked_content request);
-        texts =
-            without_desks [] world.texts;
-      },
-      page_reply world.part.next_page (created world.part moment CALLER request.parent request.slug
-          (asked_content request)).tree,
-    )
-unfolding step tree_step
-step_created world request moment number is = rw is refl
+-- a site that was ready, and has the same pages and revisions, is ready
+pub ready_too : (site other : Site) (tally : Tally World) → StandsFor other tally →
+    IsReady site tally → IsReady other tally
+ready_too site other tally stands ready =
+    record { stands = stands; young = ready.young; few = ready.few }
 
--- the answer to a request that is refused
-pub answers_refused : (site : Site) (tally : Tally World) (request : Request) (moment : ℕ) (refusal
-    : Refusal) → IsReady site tally request →
-    Some refusal ≡ create_refusal tally.world.part request.parent request.slug →
-    Answers tally request moment (Refused refusal) site
-answers_refused site tally request moment refusal ready is =
-    subst (AnsweredBy tally (Refused refusal) site) (sym (step_refused tally.world request moment
-    (tally.number + 1) refusal (sym is))) (refl, ready.stands, ready.young)
+-- an answer that adds nothing leaves the site as it stands
+pub answers_telling : (site : Site) (tally : Tally World) (outcome : Outcome) (answer : Answer) →
+    outcome ≡ telling answer → IsReady site tally → Answers tally outcome answer site
+answers_telling site tally outcome answer is ready =
+    subst (λ (o : Outcome). Answers tally o answer site) (sym is) (record {
+      answer_is = refl;
+      stands = ready.stands;
+      young = ready.young;
+      number = omega arith;
+    })
 
--- the answer to a request that is not
-pub answers_created : (site : Site) (tally : Tally World) (request : Request) (moment : ℕ) (reply :
-    Reply) → create_refusal tally.world.part request.parent request.slug ≡ None →
-    Creates site tally request moment reply →
-    Answers tally request moment (Accepted site.number reply) site
-answers_created site tally request moment reply none made =
-    let stands = made.stands in
-    let young = made.young in
-    subst (AnsweredBy tally (Accepted site.number reply) site) (sym (step_created tally.world
-    request moment (tally.number + 1) none)) (
-      rw (stands.number, made.reply_is) refl,
-      record {
-        pages = stands.pages;
-        revisions = stands.revisions;
-        time = stands.time;
-        next_page =
-            stands.next_page;
-        next_revision = stands.next_revision;
-        last_step =
-            stands.last_step;
-        number = stands.number;
-      },
-      record {
-        root = young.root;
-        kids = young.kids;
-        tree = young.tree;
-        apart = young.apart;
-        below =
-            young.below;
-        rising = young.rising;
-        steps = young.steps;
-        next_page =
-            young.next_page;
-        next_revision = young.next_revision;
-      },
-    )
+module _ (tally : Tally World) (creation : Creation) (moment : ℕ) where
+  -- the entry of the creation, which has the next number
+  abbrev made_entry : Entry
+  made_entry = entry_of creation.by moment (command_of creation) (tally.number + 1)
 
--- each byte of a title is ASCII
-title_bytes : (title : List ℕ) → list_all is_title_byte title ≡ true → AllByRecursion (λ b. b < 128) title
-title_bytes [] h = tt
-title_bytes (b ∷ title) h = both (is_title_byte b) (list_all is_title_byte title) refl h (title_bytes title)
-  where
-    both : (t u : Bool) → is_title_byte b ≡ t → t && u ≡ true → (u ≡ true →
-        AllByRecursion (λ c. c < 128) title) → (b < 128) × AllByRecursion (λ c. c < 128) title
-    both true u is and rest = (grind (arith, nat_tests), rest and)
-    both false u is and rest = cc
+  -- a creation that is not built is told so
+  pub run_not_taken :
+      ((creation.parent == 1) || not (has_page creation.parent tally.world.part.tree)) ≡ false →
+      run tally creation.by moment (command_of creation) ≡ telling NotBuilt
+  run_not_taken is = rw is refl
 
--- bytes that are all ASCII are so at each place, and past the end
-ascii_at : (bytes : List ℕ) → AllByRecursion (λ b. b < 128) bytes → (i : ℕ) → get_or bytes i 0 < 128
-ascii_at [] all i = omega arith
-ascii_at (b ∷ bytes) all zero = all.0
-ascii_at (b ∷ bytes) all (suc i) = ascii_at bytes all.1 i
+  -- a creation that is built is entered
+  run_taken : IsTaken tally creation.parent →
+      run tally creation.by moment (command_of creation) ≡ entered tally made_entry
+  run_taken is = rw is refl
 
--- a title is text
-pub title_is_text : (title : List ℕ) → list_all is_title_byte title ≡ true → IsUtf8 title
-title_is_text title h = IsUtf8-from_ascii title (ascii_at title (title_bytes title h))
+  -- a creation that is refused
+  entered_refused : (refusal : Refusal) →
+      create_refusal tally.world.part creation.parent creation.slug ≡ Some refusal →
+      entered tally made_entry ≡ telling (Refused refusal)
+  unfolding step tree_step
+  entered_refused refusal is = rw is refl
 
--- a title of 1 to 255 bytes, without blocks, fits the limits of a content
-pub plain_fits : (title : List ℕ) → 1 ≤ length title → length title ≤ 255 →
-    FitsLimits (record { title = title; blocks = [] })
-plain_fits title some few =
-    let form = length-append title (0 ∷ 0 ∷ []) in
-    record {
-      title_not_empty = some;
-      title_fits = few;
-      blocks_fit = omega arith;
-      lists_fit = All-nil FitsBlock;
-      form_fits = rw (append-nil (title ++ 0 ∷ 0 ∷ []), form) (omega arith);
-    }
+  -- the reply to a creation
+  abbrev made_reply : Reply
+  made_reply = page_reply tally.world.part.next_page
+      (after_creation tally creation moment).world.part.tree
 
--- the content of these parts, which are a title and no blocks
-pub plain_parts : (title : List ℕ) (blocks : List Block) (text : List ℕ) → title ≡ text →
-    blocks ≡ [] → content_of title blocks ≡ record { title = text; blocks = [] }
-plain_parts title blocks text is none = rw (is, none) refl
+  -- a creation that is accepted
+  entered_created : create_refusal tally.world.part creation.parent creation.slug ≡ None →
+      entered tally made_entry ≡ record {
+        answer = Accepted (tally.number + 1) made_reply;
+        added = accepted made_entry made_reply ∷ [];
+      }
+  unfolding step tree_step
+  entered_created is = rw is refl
+
+  -- what the world then is
+  tally_created : create_refusal tally.world.part creation.parent creation.slug ≡ None →
+      tally_with tally (accepted made_entry made_reply ∷ []) ≡ record {
+        world = record {
+          part = (after_creation tally creation moment).world.part;
+          texts = without_desks [] tally.world.texts;
+        };
+        number = tally.number + 1;
+      }
+  unfolding step tree_step
+  tally_created is = rw is refl
+
+  -- the answer to a creation that is refused
+  pub answers_refused : (site : Site) (refusal : Refusal) → IsReady site tally →
+      IsTaken tally creation.parent →
+      create_refusal tally.world.part creation.parent creation.slug ≡ Some refusal →
+      Answers tally (run tally creation.by moment (command_of creation)) (Refused refusal) site
+  answers_refused site refusal ready taken is =
+      answers_telling site tally _ (Refused refusal) (run_taken taken ∙ entered_refused refusal is)
+      ready
+
+  -- the site stands for a world whatever the texts of its desks
+  stands_with : (site : Site) → Creates site tally creation moment made_reply → (tally_then : Tally World) →
+      tally_then ≡ record {
+        world = record {
+          part = (after_creation tally creation moment).world.part;
+          texts = without_desks [] tally.world.texts;
+        };
+        number = tally.number + 1;
+      } → StandsFor site tally_then × IsYoung tally_then
+  stands_with site made tally_then is =
+      let stands = made.stands in
+      let young = made.young in
+      rw is (
+        record {
+          pages = stands.pages;
+          revisions = stands.revisions;
+          time = stands.time;
+          next_page = stands.next_page;
+          next_revision = stands.next_revision;
+          last_step = stands.last_step;
+          number = stands.number;
+        },
+        record {
+          root = young.root;
+          kids = young.kids;
+          tree = young.tree;
+          apart = young.apart;
+          below = young.below;
+          rising = young.rising;
+          steps = young.steps;
+          next_page = young.next_page;
+          next_revision = young.next_revision;
+          numbered = young.numbered;
+          count = young.count;
+        },
+      )
+
+  -- the answer to a creation that is accepted
+  pub answers_created : (site : Site) (reply : Reply) → IsTaken tally creation.parent →
+      create_refusal tally.world.part creation.parent creation.slug ≡ None →
+      Creates site tally creation moment reply →
+      Answers tally (run tally creation.by moment (command_of creation)) (Accepted site.number reply) site
+  answers_created site reply taken none made =
+      let told : Creates site tally creation moment made_reply =
+          record { reply_is = refl; stands = made.stands; young = made.young } in
+      let then = tally_created none in
+      let both = stands_with site told _ then in
+      subst (λ (o : Outcome). Answers tally o (Accepted site.number reply) site)
+      (sym (run_taken taken ∙ entered_created none)) (record {
+        answer_is = rw (made.stands.number, made.reply_is) refl;
+        stands = both.0;
+        young = both.1;
+        number = omega (arith, ap (λ (t : Tally World). t.number) then);
+      })
+
+-- no other command than a creation is built
+not_built : (world : World) (command : Command) →
+    ((parent : ℕ) (slug : List ℕ) (content : ContentValue) →
+    command ≡ Create parent slug content → ⊥) →
+    is_built world command ≡ false
+not_built world (Create parent slug content) other = absurd (other parent slug content refl)
+not_built world _ other = refl
+
+-- the answer to another command
+pub answers_not_built : (site : Site) (tally : Tally World) (user moment : ℕ) (command : Command) →
+    ((parent : ℕ) (slug : List ℕ) (content : ContentValue) →
+    command ≡ Create parent slug content → ⊥) →
+    IsReady site tally → Answers tally (run tally user moment command) NotBuilt site
+answers_not_built site tally user moment command other ready =
+    answers_telling site tally _ NotBuilt (rw (not_built tally.world command other) refl) ready

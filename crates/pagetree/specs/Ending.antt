@@ -1,27 +1,35 @@
 -- How a session ends, and what stands when it has ended.
-use Rattle.std.specs.Prelude.{◌≡◌, ℕ, ◌==◌, ◌+◌, ◌≤◌, ◌⊎◌, List, [], ◌∷◌, ◌++◌, length, Option, Some, None, if◌then◌else◌}
+use Rattle.std.specs.Prelude.{◌≡◌, ℕ, ◌+◌, ◌<◌, ◌≤◌, ◌⊎◌, Bool, true, false, List, [], ◌∷◌, ◌++◌, length, Option, Some, None}
+use Rattle.outside_world.specs.Source.{with_front}
 use Rattle.outside_world.specs.Sink.{with_back, AppendsPart}
+use Rattle.http_model.specs.Requests.{part, refused, IsFront}
+use Rattle.wire_model.specs.declared.answer.Answer.TheVariants.{Head}
 use Rattle.wire_model.specs.declared.words.TheConstants.{ANSWER_LIMIT}
-use Rattle.wire_model.specs.Answers.{answer_text, not_built_text}
-use Rattle.wire_model.specs.Exchange.{Past, Told, Judged, asks, nothing_left, unfinished, unbuilt, judge, tally_of}
-use Rattle.wire_model.specs.Transcript.{Follows, HasMoments, text_of}
+use Rattle.wire_model.specs.Exchange.{Past}
+use Rattle.wire_model.specs.Transcript.{Told, Follows, HasMoments, answer_text, is_last, text_of, closes}
 use Rattle.pagetree.specs.declared.status.Status.{Status}
 use Rattle.pagetree.specs.declared.status.Status.TheVariants.{Done, Usage, ReadFault, WriteFault, Memory, Cut, Refused, Spent}
 
--- the end that the bytes give: none where a request is asked and the limit is not reached
-abbrev pub end_judged : Judged → Option Status
-end_judged (asks request rest) = None
-end_judged nothing_left = Some Done
-end_judged (unfinished count) = Some (Cut count)
-end_judged unbuilt = Some (Refused 501)
+-- more requests may be answered behind these: they are fewer than the limit, and the last does not
+-- ask for closing
+abbrev pub MayGoOn : List Told → Type 0
+MayGoOn told = (length told < ANSWER_LIMIT) × (closes told ≡ false)
 
--- the end after so many answers, by what is left of the bytes
-abbrev pub end_of : ℕ → Judged → Option Status
-end_of count judged = if count == ANSWER_LIMIT then Some Spent else end_judged judged
+-- The end that the bytes give behind these requests, where `rest` is left: as many were answered as
+-- a session answers; the last asks for closing; nothing is left; what is left is a part of a
+-- request, of so many bytes; or it is refused.
+abbrev pub IsEnd : List Told → List ℕ → Status → Type 0
+IsEnd told rest Spent = length told ≡ ANSWER_LIMIT
+IsEnd told rest Done =
+    (length told < ANSWER_LIMIT) × ((closes told ≡ true) ⊎ ((closes told ≡ false) × (rest ≡ [])))
+IsEnd told rest (Cut count) =
+    MayGoOn told × (0 < length rest) × IsFront rest part × (count ≡ length rest)
+IsEnd told rest (Refused status) = MayGoOn told × IsFront rest (refused status)
+IsEnd told rest _ = ⊥
 
--- the text behind the answers: that of what is not built, where the session ends so, and else none
+-- the text behind the answers: the response to what is refused, where the session ends so
 abbrev pub last_text : Status → List ℕ
-last_text (Refused status) = not_built_text
+last_text (Refused status) = answer_text (Head status) true
 last_text _ = []
 
 -- A transcript from a history on, with what is left of the bytes.
@@ -34,19 +42,23 @@ pub record Reached (start : Past) (bytes : List ℕ) (coming : ℕ → Option �
   pub within : length told ≤ ANSWER_LIMIT
 
 -- The session ended as the bytes say, and wrote the text of its transcript.
-pub record EndsAsJudged
+pub record EndsAsTold
     (start : Past) (bytes : List ℕ) (coming : ℕ → Option ℕ)
     (before after : Option (List ℕ)) (status : Status) : Type 0 where
   pub reached : Reached start bytes coming
-  pub end : end_of (length reached.told) (judge (tally_of reached.past).world reached.rest) ≡ Some status
+  pub end : IsEnd reached.told reached.rest status
   pub written : after ≡ with_back before (text_of reached.told ++ last_text status)
 
--- A read failed, or memory was refused: what was written is the text of a transcript of the first
--- requests.
+-- A read failed: no whole request and nothing to refuse is left of the bytes that were read, so that
+-- all that was asked was answered.
 pub record EndsAtRead
     (start : Past) (bytes : List ℕ) (coming : ℕ → Option ℕ)
-    (before after : Option (List ℕ)) : Type 0 where
+    (left before after : Option (List ℕ)) : Type 0 where
   pub reached : Reached start bytes coming
+  pub goes_on : MayGoOn reached.told
+  pub unanswered : List ℕ
+  pub waits : IsFront unanswered part
+  pub left_is : with_front unanswered left ≡ Some reached.rest
   pub written : after ≡ with_back before (text_of reached.told)
 
 -- A write failed: of the last answer a first part was written, and all of the earlier ones.
@@ -57,20 +69,29 @@ pub record EndsInAnswer
   pub earlier : List Told
   pub last : Told
   pub told : reached.told ≡ earlier ++ last ∷ []
-  pub written : AppendsPart (with_back before (text_of earlier)) after (answer_text last.answer
-      (length earlier + 1 == ANSWER_LIMIT))
+  pub written : AppendsPart (with_back before (text_of earlier)) after
+      (answer_text last.answer (is_last (length earlier) last.request))
 
--- A write failed in the answer to what is not built: a first part of it was written, and all
--- answers before it.
+-- A write failed in the response to what is refused: a first part of it was written, and all answers
+-- before it.
 pub record EndsInRefusal
     (start : Past) (bytes : List ℕ) (coming : ℕ → Option ℕ)
     (before after : Option (List ℕ)) : Type 0 where
   pub reached : Reached start bytes coming
-  pub unbuilt : end_of (length reached.told) (judge (tally_of reached.past).world reached.rest) ≡
-      Some (Refused 501)
-  pub written : AppendsPart (with_back before (text_of reached.told)) after not_built_text
+  pub status : ℕ
+  pub end : IsEnd reached.told reached.rest (Refused status)
+  pub written : AppendsPart (with_back before (text_of reached.told)) after
+      (answer_text (Head status) true)
 
--- Memory was refused: the last request may have been accepted or refused without its answer being written.
+-- Memory was refused, and what was written is the text of a transcript of the first requests.
+pub record EndsEarly
+    (start : Past) (bytes : List ℕ) (coming : ℕ → Option ℕ)
+    (before after : Option (List ℕ)) : Type 0 where
+  pub reached : Reached start bytes coming
+  pub written : after ≡ with_back before (text_of reached.told)
+
+-- Memory was refused: the last request may have been accepted or refused without its answer being
+-- written.
 pub record EndsUnanswered
     (start : Past) (bytes : List ℕ) (coming : ℕ → Option ℕ)
     (before after : Option (List ℕ)) : Type 0 where
@@ -80,13 +101,16 @@ pub record EndsUnanswered
   pub told : reached.told ≡ earlier ++ last ∷ []
   pub written : after ≡ with_back before (text_of earlier)
 
--- What stands at the end of a session on these bytes, by how it ended. The bytes that the sink had
--- taken are those `before`, and then those `after`.
-abbrev pub Ends : Past → List ℕ → (ℕ → Option ℕ) → Option (List ℕ) → Option (List ℕ) → Status → Type 0
-Ends start bytes coming before after Usage = ⊥
-Ends start bytes coming before after ReadFault = EndsAtRead start bytes coming before after
-Ends start bytes coming before after WriteFault =
+-- What stands at the end of a session on these bytes, by how it ended. The source has `left`; the
+-- bytes that the sink had taken are those `before`, and then those `after`.
+abbrev pub Ends : Past → List ℕ → (ℕ → Option ℕ) → Option (List ℕ) → Option (List ℕ) →
+    Option (List ℕ) → Status → Type 0
+Ends start bytes coming left before after Usage = ⊥
+Ends start bytes coming left before after ReadFault =
+    EndsAtRead start bytes coming left before after
+Ends start bytes coming left before after WriteFault =
     EndsInAnswer start bytes coming before after ⊎ EndsInRefusal start bytes coming before after
-Ends start bytes coming before after Memory =
-    EndsAtRead start bytes coming before after ⊎ EndsUnanswered start bytes coming before after
-Ends start bytes coming before after status = EndsAsJudged start bytes coming before after status
+Ends start bytes coming left before after Memory =
+    EndsEarly start bytes coming before after ⊎ EndsUnanswered start bytes coming before after
+Ends start bytes coming left before after status =
+    EndsAsTold start bytes coming before after status

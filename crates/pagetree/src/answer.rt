@@ -1,148 +1,105 @@
-//! Answers to requests, and the texts of responses.
-ghost use Rattle.std.specs.Prelude.{◌≡◌, ◌++◌, ◌<◌, IfOk, OnOk, ℕ};
-ghost use Rattle.std.specs.Fmt.{decimal};
-ghost use Rattle.site_types.specs.Refusal.{refusal_number, refusal_name, refusal_carried};
-ghost use Rattle.wire_model.specs.Answers.{response, closing, page_body, reply_body, carried_member, refusal_body, refusal_status, answer_text, not_built_text};
-ghost use Rattle.pagetree.specs.Answering.{answered};
+//! Answering requests.
+ghost use Rattle.std.specs.Prelude.{◌≡◌, IfOk, OnErr, ℕ};
+ghost use Rattle.std.specs.Option.{option_copied};
+ghost use Rattle.http_wire.specs.Reading.{request_of};
+ghost use Rattle.site_history.specs.History.{Tally};
+ghost use Rattle.site_model.specs.World.{World};
+ghost use Rattle.wire_model.specs.Cards.{card_of};
+ghost use Rattle.wire_model.specs.Exchange.{exchange, called_with, card_told};
+ghost use Rattle.wire_model.specs.Exchange as wire;
+ghost use Rattle.pagetree.specs.Standing.{StandsFor, IsReady, Answers};
 
-use site_types::{NoMemory, Refusal, Reply};
+use crate::site::Site;
+use api_routes::{Answer, Call, RouteFault, Routes};
+use http_wire::Request;
+use site_types::{Moment, NoMemory, PageId, Refusal, UserId};
 use std::alloc::Global;
-use wire_model::{
-    CONFLICT, CONNECTION_CLOSE, CONTENT_LENGTH, CONTENT_TYPE, FIELD_ENTRY, FIELD_ID, FIELD_NAME,
-    FIELD_PATH, FIELD_REFUSED, FIELD_URL, FIELD_WITH, LINE_END, NOT_BUILT, NOT_FOUND,
-    NOT_IMPLEMENTED, OBJECT_END, OK, TEXT_END,
-};
+use wire_model::KNOWN_TOKEN;
 
-/// What a request is answered.
-#[derive(Drop)]
-pub enum Answer {
-    /// The command was accepted as the entry with this number.
-    Accepted(u64, Reply),
-    /// The command was refused.
-    Refused(Refusal),
-}
-
-/// The response to an answer; `last` where the connection ends after it.
-#[tactic(auto, unfolding(wire_model::specs::Answers::answer_text))]
-pub fn answer_response(alloc: Global, answer: &Answer, last: bool) -> Result<Vec<u8>, NoMemory>
-    ensures { IfOk result (λ text. text.items ≡ answer_text (answered answer.now) last) }
+/// Answers a request at a moment. Want of memory changes nothing.
+///
+/// It reads the body once, and costs what its call costs.
+pub fn answer_request(
+    alloc: Global,
+    routes: &Routes,
+    site: &mut Site,
+    request: &Request<'_>,
+    now: Moment,
+) -> Result<Answer, NoMemory>
+    requires { (tally : Tally World) × IsReady site.old tally }
+    ensures ok { (tally : Tally World) → IsReady site.old tally
+        → IfOk result (λ answer. Answers tally (exchange tally (request_of request.now) now) answer site.new) }
+    ensures err { (tally : Tally World) → StandsFor site.old tally → OnErr result (StandsFor site.new tally) }
 {
-    match answer {
-        Answer::Accepted(number, reply) => {
-            let body = reply_text(alloc, *number, reply)?;
-            full_response(alloc, OK, body.as_slice(), last)
-        }
-        Answer::Refused(refusal) => {
-            let body = refusal_text(alloc, refusal)?;
-            full_response(alloc, status_line(refusal), body.as_slice(), last)
-        }
+    match routes.to_call(alloc, request) {
+        Ok(call) => answer_call(alloc, site, request.token, call, now),
+        Err(fault) => fault_answer(fault),
     }
 }
 
-/// The response to what is not built, after which the connection ends.
-#[tactic(auto, unfolding(wire_model::specs::Answers::not_built_text))]
-pub fn not_built_response(alloc: Global) -> Result<Vec<u8>, NoMemory>
-    ensures { IfOk result (λ text. text.items ≡ not_built_text) }
+/// The answer to a request that asks nothing of the site.
+fn fault_answer(fault: RouteFault) -> Result<Answer, NoMemory>
+    ensures { IfOk result (λ answer. (answer ≡ wire.fault_answer fault) × (fault ≡ RouteFault.Memory → ⊥)) }
 {
-    full_response(alloc, NOT_IMPLEMENTED, NOT_BUILT, true)
-}
-
-/// A response with this status line and this body.
-#[tactic(auto, unfolding(wire_model::specs::Answers::response))]
-fn full_response(alloc: Global, status: &[u8], body: &[u8], last: bool) -> Result<Vec<u8>, NoMemory>
-    ensures { IfOk result (λ text. text.items ≡ response status.now body.now last) }
-{
-    let mut text = Vec::new(alloc);
-    put(&mut text, status)?;
-    put(&mut text, CONTENT_LENGTH)?;
-    put_number(alloc, &mut text, body.len() as u64)?;
-    put(&mut text, LINE_END)?;
-    put(&mut text, CONTENT_TYPE)?;
-    put_closing(&mut text, last)?;
-    put(&mut text, LINE_END)?;
-    put(&mut text, body)?;
-    Ok(text)
-}
-
-/// The body of an accepted command.
-fn reply_text(alloc: Global, number: u64, reply: &Reply) -> Result<Vec<u8>, NoMemory>
-    ensures { IfOk result (λ text. text.items ≡ reply_body number reply.now) }
-{
-    let mut text = Vec::new(alloc);
-    if let Reply::Page { id, path, url } = reply {
-        put(&mut text, FIELD_ENTRY)?;
-        put_number(alloc, &mut text, number)?;
-        put(&mut text, FIELD_ID)?;
-        put_number(alloc, &mut text, u64::from(id.get()))?;
-        put(&mut text, FIELD_PATH)?;
-        put(&mut text, path.as_slice())?;
-        put(&mut text, FIELD_URL)?;
-        put(&mut text, url.as_slice())?;
-        put(&mut text, TEXT_END)?;
+    match fault {
+        RouteFault::NotFound => Ok(Answer::NotFound),
+        RouteFault::NotBuilt => Ok(Answer::NotBuilt),
+        RouteFault::Method(allow) => Ok(Answer::Method(allow)),
+        RouteFault::Form => Ok(Answer::Form),
+        RouteFault::Memory => Err(NoMemory),
     }
-    Ok(text)
 }
 
-/// The body of a refusal.
-fn refusal_text(alloc: Global, refusal: &Refusal) -> Result<Vec<u8>, NoMemory>
-    ensures { IfOk result (λ text. text.items ≡ refusal_body refusal.now) }
+/// Answers a call with a token at a moment. What is for everybody asks for no token.
+fn answer_call(
+    alloc: Global,
+    site: &mut Site,
+    token: Option<&[u8]>,
+    call: Call,
+    now: Moment,
+) -> Result<Answer, NoMemory>
+    requires { (tally : Tally World) × IsReady site.old tally }
+    ensures ok { (tally : Tally World) → IsReady site.old tally
+        → IfOk result (λ answer. Answers tally (called_with tally now (option_copied token.entry) call) answer site.new) }
+    ensures err { (tally : Tally World) → StandsFor site.old tally → OnErr result (StandsFor site.new tally) }
 {
-    let mut text = Vec::new(alloc);
-    put(&mut text, FIELD_NAME)?;
-    put(&mut text, refusal.name().as_bytes())?;
-    put(&mut text, FIELD_REFUSED)?;
-    put_number(alloc, &mut text, u64::from(refusal.number()))?;
-    put_carried(alloc, &mut text, refusal.carried())?;
-    put(&mut text, OBJECT_END)?;
-    Ok(text)
+    match call {
+        // No page is live yet.
+        Call::Public(_) => Ok(Answer::NotFound),
+        Call::Page(id) => match user_of(token) {
+            Some(_) => answer_card(alloc, site, id),
+            None => Ok(Answer::NoUser),
+        },
+        Call::Run(command) => match user_of(token) {
+            Some(user) => site.run(alloc, user, command, now),
+            None => Ok(Answer::NoUser),
+        },
+    }
 }
 
-/// Appends the member with the value that a refusal carries, where it carries one.
-fn put_carried(alloc: Global, text: &mut Vec<u8>, carried: Option<u32>) -> Result<(), NoMemory>
-    ensures { OnOk result (text.new.items ≡ text.old.items ++ carried_member carried) }
+/// The answer to a call for the card of a page.
+fn answer_card(alloc: Global, site: &Site, id: PageId) -> Result<Answer, NoMemory>
+    ensures { (tally : Tally World) → IsReady site.now tally
+        → IfOk result (λ answer. answer ≡ (card_told id (card_of tally.world id)).answer) }
 {
-    match carried {
-        None => Ok(()),
-        Some(value) => {
-            put(text, FIELD_WITH)?;
-            put_number(alloc, text, u64::from(value))
+    match site.card(alloc, id)? {
+        Some(card) => Ok(Answer::Page(card)),
+        None => Ok(Answer::Refused(Refusal::NoPage(id))),
+    }
+}
+
+/// The user with the token, where one is known.
+fn user_of(token: Option<&[u8]>) -> Option<UserId>
+    ensures { result ≡ wire.user_of (option_copied token.entry) }
+{
+    match token {
+        None => None,
+        Some(token) => {
+            if token == KNOWN_TOKEN {
+                UserId::new(1)
+            } else {
+                None
+            }
         }
     }
-}
-
-/// The status line of a refusal.
-fn status_line(refusal: &Refusal) -> &'static [u8]
-    ensures { result.now ≡ refusal_status refusal.now }
-{
-    match refusal {
-        Refusal::NoPage(_) => NOT_FOUND,
-        _ => CONFLICT,
-    }
-}
-
-/// Appends the line that announces the end of the connection, where it ends.
-#[tactic(auto, using(std::proofs::lemmas::Grind::common_steps))]
-fn put_closing(text: &mut Vec<u8>, last: bool) -> Result<(), NoMemory>
-    ensures { OnOk result (text.new.items ≡ text.old.items ++ closing last) }
-{
-    if last {
-        return put(text, CONNECTION_CLOSE);
-    }
-    Ok(())
-}
-
-/// Appends a number in decimal.
-fn put_number(alloc: Global, text: &mut Vec<u8>, number: u64) -> Result<(), NoMemory>
-    ensures { OnOk result (text.new.items ≡ text.old.items ++ decimal number) }
-{
-    let digits = number.to_string(alloc)?;
-    put(text, digits.as_bytes())
-}
-
-/// Appends a piece.
-fn put(text: &mut Vec<u8>, piece: &[u8]) -> Result<(), NoMemory>
-    ensures { OnOk result (text.new.items ≡ text.old.items ++ piece.now) }
-{
-    text.extend_from_slice(piece)?;
-    Ok(())
 }

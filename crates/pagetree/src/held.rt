@@ -9,8 +9,9 @@ use site_types::NoMemory;
 use std::alloc::Global;
 use std::marker::Model;
 
-/// How many bytes can be held, which is more than any request has.
-pub const ROOM: usize = 16_384;
+/// How many bytes can be held: twice as many as the longest request has, so that bytes are moved to
+/// the front once for as many that are read, at the most.
+pub const ROOM: usize = 557_056;
 
 /// The bytes that were read and are not used yet, in the room for them: they stand from one place
 /// to another. A contract sees the list of them.

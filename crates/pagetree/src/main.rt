@@ -1,12 +1,13 @@
-//! The page tree server: `pagetree FOLDER session` answers the requests of standard input.
+//! The page tree server: `pagetree FOLDER session [--at N] [--step K]` answers the requests of
+//! standard input.
 #![tactic(auto)]
 
 mod answer;
+mod card;
+mod creation;
 mod exchange;
-mod form;
 mod held;
-mod judged;
-mod request;
+mod options;
 mod run;
 mod session;
 mod site;

@@ -1,17 +1,20 @@
 //! The call that the program makes.
-ghost use Rattle.std.specs.Prelude.{◌≡◌, ◌↔◌, ◌≤◌, Some, List, ℕ};
+ghost use Rattle.std.specs.Prelude.{◌≡◌, ◌↔◌, ◌≤◌, Some, None, List, ℕ};
 ghost use Rattle.outside_world.specs.Faults.{Rose};
-ghost use Rattle.pagetree.specs.Beginning.{start, session_words};
+ghost use Rattle.pagetree.specs.declared.options.Options.{Options as Told};
+ghost use Rattle.pagetree.specs.Beginning.{start};
 ghost use Rattle.pagetree.specs.Ending.{Ends};
+ghost use Rattle.pagetree.specs.Words.{session_options, moments, clock_asked};
 
+use crate::options::Options;
 use crate::session::session;
 use crate::status::Status;
 use crate::words::Words;
-use outside_world::{Clock, Sink, Source};
+use outside_world::{Clock, MemoryClock, Sink, Source};
 use std::alloc::Global;
 
-/// Runs the command of the words: `session` answers the requests of the source to the sink, and
-/// all else is `Status::Usage`.
+/// Runs the command of the words: `session` with its options answers the requests of the source to
+/// the sink, and all else is `Status::Usage`.
 ///
 /// Where the source tells its bytes, what was written is the text of a transcript: of the first
 /// requests in the bytes, each with the moment that the clock gave and the answer of the page tree,
@@ -23,16 +26,52 @@ pub fn run_command<S: Source, K: Sink, C: Clock>(
     sink: &mut K,
     clock: &mut C,
 ) -> Status
-    ensures usage { result ≡ Status.Usage ↔ (words.now ≡ session_words → ⊥) }
+    ensures usage { result ≡ Status.Usage ↔ (session_options words.now ≡ None) }
     ensures idle { result ≡ Status.Usage → (source.new ≡ source.old) × (sink.new ≡ sink.old) × (clock.new ≡ clock.old) }
-    ensures ends { (bytes : List ℕ) → words.now ≡ session_words → S.left source.old ≡ Some bytes
-        → Ends start bytes (C.coming clock.old) (K.taken sink.old) (K.taken sink.new) result }
+    ensures ends { (bytes : List ℕ) (options : Told) → session_options words.now ≡ Some options
+        → S.left source.old ≡ Some bytes
+        → Ends start bytes (moments options (C.coming clock.old)) (S.left source.new) (K.taken sink.old) (K.taken sink.new) result }
     ensures read_fault { result ≡ Status.ReadFault → Rose (S.faults source.old) (S.faults source.new) }
     ensures write_fault { result ≡ Status.WriteFault → Rose (K.faults sink.old) (K.faults sink.new) }
 {
-    if words.are_session() {
-        session(alloc, source, sink, clock)
-    } else {
-        Status::Usage
+    match words.session_options() {
+        Some(options) => session_with(alloc, options, source, sink, clock),
+        None => Status::Usage,
+    }
+}
+
+/// Runs a session with these options.
+fn session_with<S: Source, K: Sink, C: Clock>(
+    alloc: Global,
+    options: Options,
+    source: &mut S,
+    sink: &mut K,
+    clock: &mut C,
+) -> Status
+    ensures ends { (bytes : List ℕ) → S.left source.old ≡ Some bytes
+        → Ends start bytes (moments options (C.coming clock.old)) (S.left source.new) (K.taken sink.old) (K.taken sink.new) result }
+    ensures known { result ≡ Status.Usage → ⊥ }
+    ensures read_fault { result ≡ Status.ReadFault → Rose (S.faults source.old) (S.faults source.new) }
+    ensures write_fault { result ≡ Status.WriteFault → Rose (K.faults sink.old) (K.faults sink.new) }
+{
+    match clock_of(options) {
+        Some(clock) => {
+            let mut clock = clock;
+            session(alloc, source, sink, &mut clock)
+        }
+        None => session(alloc, source, sink, clock),
+    }
+}
+
+/// The clock in memory that options ask for, where they ask for one.
+fn clock_of(options: Options) -> Option<MemoryClock>
+    ensures { clock_asked options ≡ result }
+{
+    match (options.at, options.step) {
+        (None, None) => None,
+        (at, step) => Some(MemoryClock {
+            next: at.unwrap_or(0),
+            step: step.unwrap_or(0),
+        }),
     }
 }

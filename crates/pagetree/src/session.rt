@@ -1,23 +1,56 @@
 //! The session: requests from a source, answered to a sink, one after another.
-ghost use Rattle.std.specs.Prelude.{◌≡◌, ◌≤◌, Some, List, ℕ};
+ghost use Rattle.std.specs.Prelude.{◌≡◌, ◌==◌, ◌≤◌, ◌<◌, ◌+◌, ◌||◌, [], Some, List, ℕ, IfOk};
 ghost use Rattle.outside_world.specs.Faults.{Rose};
-ghost use Rattle.pagetree.specs.Beginning.{start, stopped_by, RefusedWith};
+ghost use Rattle.http_model.specs.Requests.{part, IsFront};
+ghost use Rattle.http_wire.specs.Reading.{KnowsNothing};
+ghost use Rattle.pagetree.specs.Beginning.{start, stopped_by, ended_by, RefusedWith, IsNewSite};
 ghost use Rattle.pagetree.specs.Ending.{Ends};
 
-use crate::exchange::{Interrupted, exchange, refuse};
+use crate::exchange::{Interrupted, exchange, respond};
 use crate::held::Held;
-use crate::judged::{Judged, judge_bytes};
 use crate::site::Site;
 use crate::status::Status;
+use api_routes::{Answer, Routes};
+use http_wire::{Next, RequestReader};
 use outside_world::{Clock, Sink, Source};
+use site_types::NoMemory;
 use std::alloc::Global;
 use wire_model::ANSWER_LIMIT;
 
+/// What a session works with: the routes, which are made once, the site in memory, the bytes that
+/// are held, and the reader of requests.
+#[derive(Drop)]
+struct Server {
+    routes: Routes,
+    site: Site,
+    held: Held,
+    reader: RequestReader,
+}
+
+/// A server of a new site, which holds no bytes.
+fn new_server(alloc: Global) -> Result<Server, NoMemory>
+    ensures site { IfOk result (λ server. IsNewSite server.site) }
+    ensures held { IfOk result (λ server. server.held ≡ []) }
+    ensures reader { IfOk result (λ server. KnowsNothing server.reader) }
+{
+    let routes = Routes::new(alloc)?;
+    let site = Site::new(alloc)?;
+    let held = Held::new(alloc)?;
+    let reader = RequestReader::new(alloc)?;
+    Ok(Server {
+        routes,
+        site,
+        held,
+        reader,
+    })
+}
+
 /// Answers the requests of the source to the sink, from a new site on, until the input ends, is
-/// refused or was answered 1,000 times.
+/// refused, asks for closing or was answered 1,000 times.
 ///
-/// Each response reaches the sink before the next read. Its cost is that of the bytes: no byte is
-/// moved for a request that is taken from the front.
+/// Each response reaches the sink before the next read. Requests that came in one read are answered
+/// one after another. Its cost is that of the bytes: no byte is moved for a request that is taken
+/// from the front, and a head is searched once however it comes.
 pub fn session<S: Source, K: Sink, C: Clock>(
     alloc: Global,
     source: &mut S,
@@ -25,23 +58,52 @@ pub fn session<S: Source, K: Sink, C: Clock>(
     clock: &mut C,
 ) -> Status
     ensures ends { (bytes : List ℕ) → S.left source.old ≡ Some bytes
-        → Ends start bytes (C.coming clock.old) (K.taken sink.old) (K.taken sink.new) result }
+        → Ends start bytes (C.coming clock.old) (S.left source.new) (K.taken sink.old) (K.taken sink.new) result }
     ensures known { result ≡ Status.Usage → ⊥ }
     ensures read_fault { result ≡ Status.ReadFault → Rose (S.faults source.old) (S.faults source.new) }
     ensures write_fault { result ≡ Status.WriteFault → Rose (K.faults sink.old) (K.faults sink.new) }
 {
-    let Ok(mut site) = Site::new(alloc) else {
+    let Ok(mut server) = new_server(alloc) else {
         return Status::Memory;
     };
-    let Ok(mut held) = Held::new(alloc) else {
-        return Status::Memory;
-    };
+    serve(
+        alloc,
+        &server.routes,
+        &mut server.site,
+        &mut server.held,
+        &mut server.reader,
+        source,
+        sink,
+        clock,
+    )
+}
+
+/// Answers the requests of the source with a new site, held bytes and a reader that are new.
+fn serve<S: Source, K: Sink, C: Clock>(
+    alloc: Global,
+    routes: &Routes,
+    site: &mut Site,
+    held: &mut Held,
+    reader: &mut RequestReader,
+    source: &mut S,
+    sink: &mut K,
+    clock: &mut C,
+) -> Status
+    requires site { IsNewSite site.old }
+    requires held { held.old ≡ [] }
+    requires reader { KnowsNothing reader.old }
+    ensures ends { (bytes : List ℕ) → S.left source.old ≡ Some bytes
+        → Ends start bytes (C.coming clock.old) (S.left source.new) (K.taken sink.old) (K.taken sink.new) result }
+    ensures known { result ≡ Status.Usage → ⊥ }
+    ensures read_fault { result ≡ Status.ReadFault → Rose (S.faults source.old) (S.faults source.new) }
+    ensures write_fault { result ≡ Status.WriteFault → Rose (K.faults sink.old) (K.faults sink.new) }
+{
     let mut answered = 0;
     'turns: loop {
-        match judge_bytes(&site, held.bytes()) {
-            Judged::Asks(request, used) => {
-                let last = answered + 1 == ANSWER_LIMIT;
-                match exchange(alloc, &mut site, request, last, sink, clock) {
+        match reader.next(held.bytes()) {
+            Next::Whole(request, used) => {
+                let last = is_last(request.close, answered);
+                match exchange(alloc, routes, site, &request, last, sink, clock) {
                     Ok(()) => {}
                     Err(why) => return interrupted(why),
                 }
@@ -49,21 +111,31 @@ pub fn session<S: Source, K: Sink, C: Clock>(
                 if answered == ANSWER_LIMIT {
                     return Status::Spent;
                 }
+                if request.close {
+                    return Status::Done;
+                }
                 held.skip(used);
             }
-            Judged::Unbuilt => return refused(alloc, sink),
-            Judged::Nothing => match held.fill(source) {
-                Ok(0) => return Status::Done,
-                Ok(_) => {}
-                Err(_) => return Status::ReadFault,
-            },
-            Judged::Unfinished(count) => match held.fill(source) {
-                Ok(0) => return Status::Cut(count),
+            Next::Refused(status) => return refused(alloc, status, sink),
+            Next::Partial => match held.fill(source) {
+                Ok(0) => return ended(held.bytes()),
                 Ok(_) => {}
                 Err(_) => return Status::ReadFault,
             },
         }
     }
+}
+
+/// Whether a session ends after a request, which so many were answered before: it asks for closing,
+/// or reaches the limit.
+fn is_last(close: bool, answered: usize) -> bool
+    requires { answered < ANSWER_LIMIT }
+    ensures { result ≡ (close || (answered + 1 == ANSWER_LIMIT)) }
+{
+    if close {
+        return true;
+    }
+    answered + 1 == ANSWER_LIMIT
 }
 
 /// The end of a session whose exchange stopped.
@@ -77,14 +149,25 @@ fn interrupted(why: Interrupted) -> Status
     }
 }
 
-/// The end of a session at what is not built, with its response.
-fn refused<K: Sink>(alloc: Global, sink: &mut K) -> Status
-    ensures response { RefusedWith (K.taken sink.old) (K.taken sink.new) result }
+/// The end of a session at the end of the input, with less than a request left.
+fn ended(bytes: &[u8]) -> Status
+    requires { IsFront bytes.now part }
+    ensures { result ≡ ended_by bytes.now }
+{
+    if bytes.is_empty() {
+        return Status::Done;
+    }
+    Status::Cut(bytes.len() as u32)
+}
+
+/// The end of a session at a request that is refused with a status, with its response.
+fn refused<K: Sink>(alloc: Global, status: u16, sink: &mut K) -> Status
+    ensures response { RefusedWith status (K.taken sink.old) (K.taken sink.new) result }
     ensures later { K.faults sink.old ≤ K.faults sink.new }
     ensures failed { result ≡ Status.WriteFault → Rose (K.faults sink.old) (K.faults sink.new) }
 {
-    match refuse(alloc, sink) {
-        Ok(()) => Status::Refused(501),
+    match respond(alloc, &Answer::Head(status), true, sink) {
+        Ok(()) => Status::Refused(status),
         Err(why) => interrupted(why),
     }
 }

@@ -1,5 +1,6 @@
 //! The site in memory: the rows of its pages, and their revisions.
-ghost use Rattle.std.specs.Prelude.{◌≡◌, ◌==◌, ◌||◌, not, ◌+◌, ◌<◌, ◌≤◌, [], ◌∷◌, List, ℕ, None, Some, IfOk, OnErr, IsTrue, vec_len, max};
+ghost use Rattle.std.specs.Prelude.{◌≡◌, ◌==◌, ◌||◌, not, ◌+◌, ◌<◌, ◌≤◌, [], ◌∷◌, List, ℕ, None, Some, IfOk, OnErr, IsTrue, vec_len, max, option_and_then};
+ghost use Rattle.std.specs.Option.{option_copied};
 ghost use Rattle.std.specs.Vec.{vec_capacity};
 ghost use Rattle.page_tree.specs.Tree.{has_page};
 ghost use Rattle.page_tree.specs.Walk.{SLASH};
@@ -7,22 +8,23 @@ ghost use Rattle.page_tree.specs.Rows.{rows_of, child_url};
 ghost use Rattle.step_path.specs.Path.{path_text};
 ghost use Rattle.site_history.specs.History.{Tally};
 ghost use Rattle.site_model.specs.World.{World};
-ghost use Rattle.site_model.specs.Start.{new_world};
 ghost use Rattle.site_model.specs.Create.{create_refusal, fresh_body, plain_revision};
-ghost use Rattle.wire_model.specs.Exchange.{is_built, CALLER};
-ghost use Rattle.wire_model.specs.Exchange as wire;
-ghost use Rattle.pagetree.specs.Reading.{asked};
-ghost use Rattle.pagetree.specs.Standing.{StandsFor, IsReady, Creates, CanCommit, Answers, fresh_row};
+ghost use Rattle.wire_model.specs.Cards.{card_of, revision_with};
+ghost use Rattle.wire_model.specs.Exchange.{run};
+ghost use Rattle.pagetree.specs.Beginning.{IsNewSite};
+ghost use Rattle.pagetree.specs.Standing.{StandsFor, AreNumbered, IsReady, IsTaken, command_of, Creates, CanCommit, Answers, fresh_row};
 
-use crate::answer::Answer;
-use crate::request::Request;
+use crate::card::make_card;
+use crate::creation::Creation;
 use page_store::Rows;
+use public_view::Card;
 use site_types::{
-    Blocks, Body, Content, Moment, NoMemory, PageId, PageRow, PathText, Refusal, Reply, Revision,
-    RevisionId, Slug, Text, Url, UserId,
+    Body, Command, Content, Moment, NoMemory, PageId, PageRow, PathText, Refusal, Reply, Revision,
+    RevisionId, Slug, Url, UserId,
 };
 use std::alloc::Global;
 use step_path::{Path, Step};
+use wire_model::Answer;
 
 /// The site in memory.
 #[derive(Drop)]
@@ -39,8 +41,7 @@ pub struct Site {
 impl Site {
     /// A new site: the root alone, at the number 0.
     pub fn new(alloc: Global) -> Result<Site, NoMemory>
-        ensures { IfOk result (λ site. (digest : List ℕ) →
-            StandsFor site (record { world = new_world digest; number = 0 })) }
+        ensures { IfOk result IsNewSite }
     {
         let rows = Rows::root(alloc)?;
         let Some(time) = Moment::new(0) else {
@@ -68,88 +69,113 @@ impl Site {
         self.rows.row(parent).is_none()
     }
 
-    /// Answers a request at a moment. Want of memory changes nothing.
+    /// Runs a command by a user at a moment. Want of memory changes nothing.
     ///
-    /// It costs two look-ups, and what the new page takes.
-    pub fn answer(
+    /// A creation costs three look-ups, and what the new page takes.
+    pub fn run(
         &mut self,
         alloc: Global,
-        request: &Request<'_>,
+        user: UserId,
+        command: Command,
         now: Moment,
     ) -> Result<Answer, NoMemory>
-        requires { (tally : Tally World) × IsReady self.old tally (asked request.now) }
-        ensures ok { (tally : Tally World) → IsReady self.old tally (asked request.now)
-            → IfOk result (λ answer. Answers tally (asked request.now) now answer self.new) }
+        requires { (tally : Tally World) × IsReady self.old tally }
+        ensures ok { (tally : Tally World) → IsReady self.old tally
+            → IfOk result (λ answer. Answers tally (run tally user now command) answer self.new) }
         ensures err { (tally : Tally World) → StandsFor self.old tally → OnErr result (StandsFor self.new tally) }
     {
-        match self.refusal(request) {
+        match command {
+            Command::Create {
+                parent,
+                slug,
+                content,
+            } => {
+                let creation = Creation {
+                    by: user,
+                    parent,
+                    slug,
+                    content,
+                };
+                self.try_creation(alloc, creation, now)
+            }
+            _ => Ok(Answer::NotBuilt),
+        }
+    }
+
+    /// Makes a page, where that is built and no rule refuses it.
+    fn try_creation(
+        &mut self,
+        alloc: Global,
+        creation: Creation,
+        now: Moment,
+    ) -> Result<Answer, NoMemory>
+        requires { (tally : Tally World) × IsReady self.old tally }
+        ensures ok { (tally : Tally World) → IsReady self.old tally
+            → IfOk result (λ answer. Answers tally (run tally creation.by now (command_of creation)) answer self.new) }
+        ensures err { (tally : Tally World) → StandsFor self.old tally → OnErr result (StandsFor self.new tally) }
+    {
+        if !self.takes(creation.parent) {
+            return Ok(Answer::NotBuilt);
+        }
+        match self.refusal(creation.parent, &creation.slug) {
             Some(refusal) => Ok(Answer::Refused(refusal)),
             None => {
-                let reply = self.create(alloc, request, now)?;
+                let reply = self.create(alloc, creation, now)?;
                 Ok(Answer::Accepted(self.number, reply))
             }
         }
     }
 
-    /// Why a request is refused: its parent is no page, or a page below the parent has its slug.
-    fn refusal(&self, request: &Request<'_>) -> Option<Refusal>
-        ensures { (tally : Tally World) → IsReady self.now tally (asked request.now)
-            → result ≡ create_refusal tally.world.part request.now.parent request.now.slug }
+    /// Why a creation is refused: its parent is no page, or a page below the parent has its slug.
+    fn refusal(&self, parent: PageId, slug: &Slug) -> Option<Refusal>
+        ensures { (tally : Tally World) → IsReady self.now tally → IsTaken tally parent
+            → result ≡ create_refusal tally.world.part parent slug.now }
     {
-        if self.rows.row(request.parent).is_none() {
-            return Some(Refusal::NoPage(request.parent));
+        if self.rows.row(parent).is_none() {
+            return Some(Refusal::NoPage(parent));
         }
-        match self.rows.by_slug(request.parent, &request.slug) {
+        match self.rows.by_slug(parent, slug) {
             Some(other) => Some(Refusal::SlugTaken(other)),
             None => None,
         }
     }
 
-    /// Makes the page of a request that is not refused. All memory is taken first.
+    /// Makes the page of a creation that is not refused. All memory is taken first.
     fn create(
         &mut self,
         alloc: Global,
-        request: &Request<'_>,
+        creation: Creation,
         now: Moment,
     ) -> Result<Reply, NoMemory>
-        requires { (tally : Tally World) × IsReady self.old tally (asked request.now)
-            × (create_refusal tally.world.part request.now.parent request.now.slug ≡ None) }
-        ensures ok { (tally : Tally World) → IsReady self.old tally (asked request.now)
-            → create_refusal tally.world.part request.now.parent request.now.slug ≡ None
-            → IfOk result (λ reply. Creates self.new tally (asked request.now) now reply) }
+        requires { (tally : Tally World) × IsReady self.old tally × IsTaken tally creation.parent
+            × (create_refusal tally.world.part creation.parent creation.slug ≡ None) }
+        ensures ok { (tally : Tally World) → IsReady self.old tally → IsTaken tally creation.parent
+            → create_refusal tally.world.part creation.parent creation.slug ≡ None
+            → IfOk result (λ reply. Creates self.new tally creation now reply) }
         ensures err { (tally : Tally World) → StandsFor self.old tally → OnErr result (StandsFor self.new tally) }
     {
-        let url = page_url(alloc, &request.slug)?;
+        let url = page_url(alloc, &creation.slug)?;
         let told = url.copy(alloc)?;
-        let content = plain_content(alloc, request)?;
         self.rows.reserve(1)?;
         self.revisions.reserve(1)?;
-        Ok(self.commit(request, content, url, told, now))
+        Ok(self.commit(creation, url, told, now))
     }
 
     /// Puts the new page in, with its one revision. It cannot fail.
-    fn commit(
-        &mut self,
-        request: &Request<'_>,
-        content: Content,
-        url: Url,
-        told: Url,
-        now: Moment,
-    ) -> Reply
+    fn commit(&mut self, creation: Creation, url: Url, told: Url, now: Moment) -> Reply
         requires rows { 1 ≤ self.old.rows.spare }
         requires revisions { vec_len self.old.revisions < vec_capacity self.old.revisions }
-        requires ready { (tally : Tally World) × CanCommit self.old tally (asked request.now) url }
+        requires ready { (tally : Tally World) × CanCommit self.old tally creation url }
         requires told { told ≡ url }
-        requires content { content ≡ wire.content_of (asked request.now) }
-        ensures { (tally : Tally World) → CanCommit self.old tally (asked request.now) url
-            → Creates self.new tally (asked request.now) now result }
+        ensures { (tally : Tally World) → CanCommit self.old tally creation url
+            → Creates self.new tally creation now result }
     {
         let (page, revision, step) = self.next_ids();
-        let row = new_row(page, revision, step, request.slug.copy());
+        let row = new_row(creation.by, page, revision, step, creation.slug);
         let path = row.path.copy();
         let made = self.later(now);
         self.rows.insert_reserved(row, url);
-        let first = new_revision(revision, page, made, content);
+        let first = new_revision(revision, page, creation.by, made, creation.content);
         match self.revisions.push(first) {
             Ok(()) => {}
             Err(_) => unreachable!(),
@@ -166,9 +192,38 @@ impl Site {
         }
     }
 
+    /// The card of a page, or `None` exactly where there is no such page.
+    ///
+    /// It costs two look-ups, and copies what the card tells.
+    pub fn card(&self, alloc: Global, id: PageId) -> Result<Option<Card>, NoMemory>
+        ensures { (tally : Tally World) → IsReady self.now tally
+            → IfOk result (λ card. card ≡ card_of tally.world id) }
+    {
+        let Some(row) = self.rows.row(id) else {
+            return Ok(None);
+        };
+        let Some(url) = self.rows.url(id) else {
+            unreachable!()
+        };
+        let shown = self.revision(row.body.shown);
+        let card = make_card(alloc, row, url, shown)?;
+        Ok(Some(card))
+    }
+
+    /// The revision with the id, where there is one. Revisions are numbered from 1 in their order.
+    fn revision(&self, id: Option<RevisionId>) -> Option<&Revision>
+        ensures { AreNumbered 1 self.now.revisions.items
+            → option_copied result ≡ option_and_then (λ n. revision_with n self.now.revisions.items) id }
+    {
+        match id {
+            None => None,
+            Some(id) => self.revisions.get(id.get() as usize - 1),
+        }
+    }
+
     /// The next page's id, the next revision's id and the step after the last page's.
     fn next_ids(&self) -> (PageId, RevisionId, Step)
-        requires { (tally : Tally World) × (request : _) × IsReady self.now tally request }
+        requires { (tally : Tally World) × IsReady self.now tally }
         ensures { result ≡ (self.now.next_page, self.now.next_revision, self.now.last_step + 1) }
     {
         match (
@@ -204,20 +259,15 @@ fn page_url(alloc: Global, slug: &Slug) -> Result<Url, NoMemory>
     Ok(Url::from_vec(url))
 }
 
-/// The content of a request: its title, and no blocks.
-fn plain_content(alloc: Global, request: &Request<'_>) -> Result<Content, NoMemory>
-    ensures { IfOk result (λ content. content ≡ wire.content_of (asked request.now)) }
-{
-    let title = Text::from_string(String::from_utf8_lossy(alloc, request.title)?);
-    match Content::new(title, Blocks::from_vec(Vec::new(alloc))) {
-        Some(content) => Ok(content),
-        None => unreachable!(),
-    }
-}
-
 /// The row of a page that is made below the root, with its first revision.
-fn new_row(page: PageId, revision: RevisionId, step: Step, slug: Slug) -> PageRow
-    ensures { result ≡ fresh_row page revision step slug }
+fn new_row(
+    owner: UserId,
+    page: PageId,
+    revision: RevisionId,
+    step: Step,
+    slug: Slug,
+) -> PageRow
+    ensures { result ≡ fresh_row owner page revision step slug }
 {
     PageRow {
         id: page,
@@ -225,7 +275,7 @@ fn new_row(page: PageId, revision: RevisionId, step: Step, slug: Slug) -> PageRo
         depth: 2,
         numchild: 0,
         slug,
-        body: new_body(caller(), revision),
+        body: new_body(owner, revision),
     }
 }
 
@@ -262,24 +312,20 @@ fn new_body(owner: UserId, revision: RevisionId) -> Body
     }
 }
 
-/// The caller of every request: user 1.
-fn caller() -> UserId
-    ensures { result ≡ CALLER }
-{
-    match UserId::new(1) {
-        Some(user) => user,
-        None => unreachable!(),
-    }
-}
-
-/// A revision by the caller without moments.
-fn new_revision(id: RevisionId, page: PageId, made: Moment, content: Content) -> Revision
-    ensures { result ≡ plain_revision id page CALLER made content }
+/// A revision by this user without moments.
+fn new_revision(
+    id: RevisionId,
+    page: PageId,
+    by: UserId,
+    made: Moment,
+    content: Content,
+) -> Revision
+    ensures { result ≡ plain_revision id page by made content }
 {
     Revision {
         id,
         page,
-        by: caller(),
+        by,
         made,
         content,
         go_live: None,

@@ -28,10 +28,81 @@ const NO_PAGE: &[u8] =
     b"HTTP/1.1 404 Not Found\r\nContent-Length: 38\r\nContent-Type: application/json\r\n\r\n\
     {\"name\":\"NoPage\",\"refused\":1,\"with\":9}";
 
-/// The answer to what is not built.
+/// The answer to a parent that is a page other than the root.
 const NOT_BUILT: &[u8] =
-    b"HTTP/1.1 501 Not Implemented\r\nContent-Length: 20\r\nContent-Type: application/json\r\n\
-    Connection: close\r\n\r\n{\"error\":\"NotBuilt\"}";
+    b"HTTP/1.1 501 Not Implemented\r\nContent-Length: 20\r\nContent-Type: application/json\r\n\r\n\
+    {\"error\":\"NotBuilt\"}";
+
+/// A request for the card of page 2.
+const CARD: &[u8] = b"GET /api/pages/2 HTTP/1.1\r\nAuthorization: Bearer abc\r\n\r\n";
+
+/// Its answer.
+const CARD_OF_HOME: &[u8] =
+    b"HTTP/1.1 200 OK\r\nContent-Length: 318\r\nContent-Type: application/json\r\n\r\n\
+    {\"alias_of\":0,\"depth\":2,\"expire_at\":null,\"expired\":false,\"first_published_at\":null,\
+    \"id\":2,\"last_published_at\":null,\"latest\":1,\"live\":false,\"locked_by\":0,\
+    \"moderation\":\"none\",\"numchild\":0,\"owner\":1,\"path\":\"00010001\",\"scheduled\":0,\
+    \"shown\":1,\"slug\":\"home\",\"task\":0,\"title\":\"Home\",\"unpublished_changes\":true,\
+    \"url\":\"/home/\"}";
+
+/// A request with a method that its route does not take.
+const DELETE: &[u8] = b"DELETE /api/pages HTTP/1.1\r\n\r\n";
+
+/// Its answer.
+const METHOD: &[u8] =
+    b"HTTP/1.1 405 Method Not Allowed\r\nContent-Length: 18\r\nContent-Type: application/json\r\n\
+    Allow: POST\r\n\r\n{\"error\":\"Method\"}";
+
+/// A command whose token names nobody.
+const NOBODY: &[u8] =
+    b"POST /api/pages HTTP/1.1\r\nAuthorization: Bearer nobody\r\nContent-Length: 65\r\n\r\n\
+    {\"content\":{\"blocks\":[],\"title\":\"Home\"},\"parent\":1,\"slug\":\"home\"}";
+
+/// Its answer.
+const NO_USER: &[u8] =
+    b"HTTP/1.1 401 Unauthorized\r\nContent-Length: 18\r\nContent-Type: application/json\r\n\
+    WWW-Authenticate: Bearer\r\n\r\n{\"error\":\"NoUser\"}";
+
+/// A usual client's request for a page that is not there.
+const NOWHERE: &[u8] =
+    b"GET /nowhere/ HTTP/1.1\r\nHost: localhost:8000\r\nUser-Agent: curl/8.5.0\r\nAccept: */*\r\n\r\n";
+
+/// The same, which asks for closing.
+const NOWHERE_LAST: &[u8] = b"GET /nowhere/ HTTP/1.1\r\nConnection: close\r\n\r\n";
+
+/// The answer to the first.
+const NOT_FOUND: &[u8] =
+    b"HTTP/1.1 404 Not Found\r\nContent-Length: 20\r\nContent-Type: application/json\r\n\r\n\
+    {\"error\":\"NotFound\"}";
+
+/// The answer to the second.
+const NOT_FOUND_LAST: &[u8] =
+    b"HTTP/1.1 404 Not Found\r\nContent-Length: 20\r\nContent-Type: application/json\r\n\
+    Connection: close\r\n\r\n{\"error\":\"NotFound\"}";
+
+/// A command without a body.
+const EMPTY: &[u8] = b"POST /api/pages HTTP/1.1\r\nAuthorization: Bearer abc\r\n\r\n";
+
+/// Its answer.
+const FORM: &[u8] =
+    b"HTTP/1.1 400 Bad Request\r\nContent-Length: 16\r\nContent-Type: application/json\r\n\r\n\
+    {\"error\":\"Form\"}";
+
+/// A head that announces a body of one byte too many.
+const HUGE: &[u8] = b"POST /api/pages HTTP/1.1\r\nContent-Length: 262145\r\n\r\n";
+
+/// Its answer.
+const TOO_LARGE: &[u8] =
+    b"HTTP/1.1 413 Content Too Large\r\nContent-Length: 20\r\nContent-Type: application/json\r\n\
+    Connection: close\r\n\r\n{\"error\":\"TooLarge\"}";
+
+/// What is no head.
+const NO_HEAD: &[u8] = b"GET / HTTP/1.1\r\nA name: x\r\n\r\n";
+
+/// Its answer.
+const BAD_HEAD: &[u8] =
+    b"HTTP/1.1 400 Bad Request\r\nContent-Length: 16\r\nContent-Type: application/json\r\n\
+    Connection: close\r\n\r\n{\"error\":\"Head\"}";
 
 /// A request for a page, whose title is its slug.
 fn request_for(alloc: Global, parent: u32, slug: &str) -> Result<String, AllocError> {
@@ -126,26 +197,43 @@ fn requests_are_answered_one_after_another(rt: HostRuntime) -> Result<(), Fail> 
 }
 
 #[test]
-fn what_is_not_built_ends_the_session(rt: HostRuntime) -> Result<(), Fail> {
-    let refused = Status::Refused(501);
-    let get = b"GET / HTTP/1.1\r\n\r\n";
-    expect_session(&rt, rt.alloc(), &[get], &[NOT_BUILT], refused)?;
-    expect_session(
-        &rt,
-        rt.alloc(),
-        &[HOME, get, HOME],
-        &[CREATED, NOT_BUILT],
-        refused,
-    )?;
+fn each_request_has_its_answer(rt: HostRuntime) -> Result<(), Fail> {
     // Page 2 is a page other than the root.
     let below = request_for(rt.alloc(), 2, "below")?;
     expect_session(
         &rt,
         rt.alloc(),
-        &[HOME, below.as_bytes()],
-        &[CREATED, NOT_BUILT],
-        refused,
+        &[HOME, CARD, DELETE, NOBODY, NOWHERE, EMPTY, below.as_bytes(), HOME],
+        &[
+            CREATED,
+            CARD_OF_HOME,
+            METHOD,
+            NO_USER,
+            NOT_FOUND,
+            FORM,
+            NOT_BUILT,
+            TAKEN,
+        ],
+        Status::Done,
     )
+}
+
+#[test]
+fn the_last_answer_announces_the_end(rt: HostRuntime) -> Result<(), Fail> {
+    for (last, answer, end) in [
+        (NOWHERE_LAST, NOT_FOUND_LAST, Status::Done),
+        (HUGE, TOO_LARGE, Status::Refused(413)),
+        (NO_HEAD, BAD_HEAD, Status::Refused(400)),
+    ] {
+        expect_session(
+            &rt,
+            rt.alloc(),
+            &[HOME, last, HOME],
+            &[CREATED, answer],
+            end,
+        )?;
+    }
+    Ok(())
 }
 
 #[test]
@@ -217,9 +305,42 @@ fn a_failed_read_or_write_ends_the_session(rt: HostRuntime) -> Result<(), Fail> 
 }
 
 #[test]
+fn options_tell_the_clock(rt: HostRuntime) -> Result<(), Fail> {
+    let alloc = rt.alloc();
+    for line in [
+        "session --at 1700000000 --step 5",
+        "session --step=5 --at=1700000000",
+        "session --at 000000000007",
+    ] {
+        let mut words = Words::new(alloc);
+        for word in line.split(' ') {
+            words.push(word)?;
+        }
+        let mut source = MemorySource::new(HOME.to_vec(alloc)?, Vec::new(alloc));
+        let mut sink = MemorySink::new(alloc, Vec::new(alloc));
+        let mut clock = MemoryClock { next: 0, step: 0 };
+        let status = run_command(alloc, &words, &mut source, &mut sink, &mut clock);
+        assert_eq!(rt; status, Status::Done, "at {line}");
+        assert_eq!(rt; sink.bytes(), CREATED, "at {line}");
+    }
+    Ok(())
+}
+
+#[test]
 fn other_words_are_no_command(rt: HostRuntime) -> Result<(), Fail> {
     let alloc = rt.alloc();
-    for line in ["", "serve", "sessions", "session now"] {
+    for line in [
+        "",
+        "serve",
+        "sessions",
+        "session now",
+        "session --at",
+        "session --at x",
+        "session --at 1 --at=2",
+        "session --step=1234567890123",
+        "session -- --at 1",
+        "session --help",
+    ] {
         let mut words = Words::new(alloc);
         for word in line.split(' ') {
             words.push(word)?;
@@ -243,7 +364,7 @@ fn each_end_has_its_code_and_its_name(rt: HostRuntime) -> Result<(), Fail> {
         (Status::WriteFault, 4, "WriteFault"),
         (Status::Memory, 6, "Memory"),
         (Status::Cut(5), 8, "Cut"),
-        (Status::Refused(501), 10, "Refused"),
+        (Status::Refused(413), 10, "Refused"),
         (Status::Spent, 11, "Spent"),
     ] {
         assert_eq!(rt; status.code(), code);

@@ -1,13 +1,34 @@
 //! The words of a command line.
-ghost use Rattle.std.specs.Prelude.{◌≡◌, ◌↔◌, ◌++◌, [], ◌∷◌, ℕ, List, IsTrue, IfOk, OnOk, OnErr};
-ghost use Rattle.pagetree.specs.Beginning.{session_words};
+ghost use Rattle.std.specs.Prelude.{◌≡◌, ◌++◌, [], ◌∷◌, ℕ, List, IfOk, OnOk, OnErr, bytes_eq};
+ghost use Rattle.std.specs.List.{list_all};
+ghost use Rattle.std.specs.Char.{is_ascii_digit};
+ghost use Rattle.pagetree.specs.Words.{number_in, told_once, with_at, with_step, with_joined, options_behind, session_options};
 
+use crate::options::Options;
 use site_types::{NoMemory, Text};
 use std::alloc::Global;
 use std::marker::Model;
 
 /// The word of the command that answers requests from standard input.
-const SESSION: &str = "session";
+pub const SESSION: &[u8] = b"session";
+
+/// The option that tells the first moment of a clock in memory, before its number.
+pub const AT: &[u8] = b"--at";
+
+/// The same with its number behind it.
+pub const AT_FRONT: &[u8] = b"--at=";
+
+/// The option that tells the seconds from one moment to the next, before its number.
+pub const STEP: &[u8] = b"--step";
+
+/// The same with its number behind it.
+pub const STEP_FRONT: &[u8] = b"--step=";
+
+/// The most digits that a number has.
+pub const MAX_DIGITS: usize = 12;
+
+/// The greatest number of so many digits.
+const LAST_NUMBER: u64 = 999_999_999_999;
 
 /// The words of a command line behind the folder, each in UTF-8. A contract sees the list of their
 /// bytes.
@@ -44,13 +65,127 @@ impl Words {
         Ok(())
     }
 
-    /// Whether they are the one word of the session.
-    pub fn are_session(&self) -> bool
-        ensures { IsTrue result ↔ (self.now ≡ session_words) }
+    /// The options of the session that the words ask for, or `None` exactly where they ask for none.
+    pub fn session_options(&self) -> Option<Options>
+        ensures { result ≡ session_options self.now }
     {
-        match self.words.as_slice() {
-            [word] => word.as_str() == SESSION,
-            _ => false,
+        session_in(self.words.as_slice())
+    }
+}
+
+/// The options of the session that words ask for.
+fn session_in(words: &[Text]) -> Option<Options>
+    ensures { result ≡ session_options words.now }
+{
+    let [word, rest @ ..] = words else {
+        return None;
+    };
+    if !is_word(word, SESSION) {
+        return None;
+    }
+    let none = Options {
+        at: None,
+        step: None,
+    };
+    options_behind(none, rest)
+}
+
+/// The options with those that words tell, where they tell options and nothing else.
+fn options_behind(options: Options, words: &[Text]) -> Option<Options>
+    ensures { result ≡ options_behind options words.now }
+{
+    match words {
+        [] => Some(options),
+        [word] => with_joined(options, word.as_bytes()),
+        [word, value, rest @ ..] => {
+            if is_word(word, AT) {
+                let Some(more) = with_at(options, number_in(value.as_bytes())) else {
+                    return None;
+                };
+                return options_behind(more, rest);
+            }
+            if is_word(word, STEP) {
+                let Some(more) = with_step(options, number_in(value.as_bytes())) else {
+                    return None;
+                };
+                return options_behind(more, rest);
+            }
+            let Some(more) = with_joined(options, word.as_bytes()) else {
+                return None;
+            };
+            options_behind(more, &words[1..])
         }
     }
+}
+
+/// Whether the word is this one.
+fn is_word(word: &Text, name: &[u8]) -> bool
+    ensures { result ≡ bytes_eq word.now name.now }
+{
+    word.as_bytes() == name
+}
+
+/// The options with a word that tells one of them and its number.
+fn with_joined(options: Options, word: &[u8]) -> Option<Options>
+    ensures { result ≡ with_joined options word.now }
+{
+    if let Some(number) = word.strip_prefix(AT_FRONT) {
+        return with_at(options, number_in(number));
+    }
+    if let Some(number) = word.strip_prefix(STEP_FRONT) {
+        return with_step(options, number_in(number));
+    }
+    None
+}
+
+/// The options with the first moment, which may be told once.
+fn with_at(options: Options, number: Option<u64>) -> Option<Options>
+    ensures { result ≡ with_at options number }
+{
+    let at = told_once(options.at, number)?;
+    Some(Options {
+        at: Some(at),
+        step: options.step,
+    })
+}
+
+/// The options with the seconds between moments, which may be told once.
+fn with_step(options: Options, number: Option<u64>) -> Option<Options>
+    ensures { result ≡ with_step options number }
+{
+    let step = told_once(options.step, number)?;
+    Some(Options {
+        at: options.at,
+        step: Some(step),
+    })
+}
+
+/// The number that is told now of what may be told once.
+fn told_once(told: Option<u64>, number: Option<u64>) -> Option<u64>
+    ensures { result ≡ told_once told number }
+{
+    match told {
+        None => number,
+        Some(_) => None,
+    }
+}
+
+/// The number that a word of 1 to 12 decimal digits writes.
+fn number_in(word: &[u8]) -> Option<u64>
+    ensures { result ≡ number_in word.now }
+{
+    if word.is_empty() {
+        return None;
+    }
+    if word.len() > MAX_DIGITS {
+        return None;
+    }
+    let mut n: u64 = 0;
+    for b in word {
+        if !b.is_ascii_digit() {
+            return None;
+        }
+        n = (n * 10 + u64::from(*b - b'0')).min(LAST_NUMBER);
+    }
+    Some(n)
 }

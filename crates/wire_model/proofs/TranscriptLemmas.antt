@@ -11,7 +11,8 @@ use Rattle.site_history.specs.History.{Tally, Item, accepted, tick, tick_all, Al
 use Rattle.site_model.specs.World.{World}
 use Rattle.site_model.specs.Step.{step}
 use Rattle.http_model.specs.Requests.{Request, Front, whole, IsFront}
-use Rattle.http_model.proofs.FrontLemmas.{one_front, final_stays}
+use Rattle.http_model.proofs.FrontLemmas.{one_front}
+use Rattle.http_model.proofs.FinalLemmas.{final_stays}
 use Rattle.public_view.specs.declared.card.Card.{Card}
 use Rattle.wire_model.specs.declared.call.Call.{Call}
 use Rattle.wire_model.specs.declared.call.Call.TheVariants.{Run, Page, Public}

@@ -1,5 +1,5 @@
 -- The head alone has two bytes.
-use Rattle.http_model.proofs.FrontLemmas.{a_whole_takes_bytes}
+use Rattle.http_model.proofs.BoundLemmas.{a_whole_takes_bytes}
 use Rattle.http_model.proofs.laws.a_whole_takes_bytes.Goals as goal
 
 pub returns : goal.returns

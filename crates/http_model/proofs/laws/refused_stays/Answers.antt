@@ -1,6 +1,6 @@
 -- A refusal is final.
 use Rattle.http_model.specs.Requests.{refused}
-use Rattle.http_model.proofs.FrontLemmas.{final_stays}
+use Rattle.http_model.proofs.FinalLemmas.{final_stays}
 use Rattle.http_model.proofs.laws.refused_stays.Goals as goal
 
 pub returns : goal.returns

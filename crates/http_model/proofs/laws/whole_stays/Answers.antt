@@ -1,6 +1,6 @@
 -- A whole request is final.
 use Rattle.http_model.specs.Requests.{whole}
-use Rattle.http_model.proofs.FrontLemmas.{final_stays}
+use Rattle.http_model.proofs.FinalLemmas.{final_stays}
 use Rattle.http_model.proofs.laws.whole_stays.Goals as goal
 
 pub returns : goal.returns

@@ -1,0 +1,127 @@
+-- The definition of calls at worked values.
+use Rattle.std.proofs.Common.{◌≡◌, ℕ, List, [], ◌∷◌, Some, None, Ok, Err, refl, codes, false}
+use Rattle.http_model.specs.Requests.{Request}
+use Rattle.http_model.specs.declared.method.Method.{Method}
+use Rattle.http_model.specs.declared.method.Method.TheVariants.{Get, Post, Other}
+use Rattle.http_model.specs.declared.method.Allow.TheVariants as allows
+use Rattle.serde_json.specs.Data.{Data, unsigned, number, string, array, object, no_items, no_members, member}
+use Rattle.site_types.specs.declared.command.Command.TheVariants.{Create}
+use Rattle.wire_model.specs.Routes.{route_of, creation, card_named, unbuilt, nowhere, public_page, id_written, closed_path, creation_in, call_of}
+use Rattle.wire_model.specs.declared.call.Call.TheVariants.{Page, Public}
+use Rattle.wire_model.specs.declared.call.RouteFault.TheVariants.{NotFound, NotBuilt, Method as WrongMethod, Form}
+
+-- the route that creates pages
+pages_create : route_of (codes "/api/pages") ≡ creation
+unfolding route_of
+pages_create = refl
+
+-- a part behind `/api/pages/` is a card's, whatever it is
+a_part_is_a_card : route_of (codes "/api/pages/x") ≡ card_named (codes "x")
+unfolding route_of
+a_part_is_a_card = refl
+
+-- no part, or two
+no_part : route_of (codes "/api/pages/") ≡ nowhere
+unfolding route_of
+no_part = refl
+
+two_parts : route_of (codes "/api/pages/2/") ≡ nowhere
+unfolding route_of
+two_parts = refl
+
+-- what is not built yet
+a_command : route_of (codes "/api/checkpoint") ≡ unbuilt
+unfolding route_of
+a_command = refl
+
+a_desk : route_of (codes "/api/desks/2") ≡ unbuilt
+unfolding route_of
+a_desk = refl
+
+-- `/api` and what is below it has no other route, and any other path is for everybody
+api_alone : route_of (codes "/api") ≡ nowhere
+unfolding route_of
+api_alone = refl
+
+below_api : route_of (codes "/api/x") ≡ nowhere
+unfolding route_of
+below_api = refl
+
+beside_api : route_of (codes "/apix") ≡ public_page
+unfolding route_of
+beside_api = refl
+
+a_star : route_of (codes "*") ≡ public_page
+unfolding route_of
+a_star = refl
+
+-- ids have 1 to 7 digits, and are 1 to 1,000,000
+leading_zeros : id_written (codes "0000002") ≡ Some 2
+leading_zeros = refl
+
+the_last_id : id_written (codes "1000000") ≡ Some 1000000
+the_last_id = refl
+
+above_the_last_id : id_written (codes "1000001") ≡ None
+above_the_last_id = refl
+
+eight_digits : id_written (codes "00000002") ≡ None
+eight_digits = refl
+
+zero_is_no_id : id_written (codes "0") ≡ None
+zero_is_no_id = refl
+
+-- a path is closed once
+an_open_path : closed_path (codes "/home") ≡ codes "/home/"
+an_open_path = refl
+
+a_closed_path : closed_path (codes "/home/") ≡ codes "/home/"
+a_closed_path = refl
+
+-- {"content":{"blocks":[],"title":"A"},"parent":7,"slug":..} with this slug
+abbrev creation_object : Data → Data
+creation_object slug =
+    object
+    (member (codes "content")
+    (object
+    (member (codes "blocks") (array no_items)
+    (member (codes "title") (string (codes "A")) no_members)))
+    (member (codes "parent") (number (unsigned 7)) (member (codes "slug") slug no_members)))
+
+-- it is read, and a slug with a space is none
+a_creation : creation_in (creation_object (string (codes "home")))
+    ≡ Some (Create 7 (codes "home") (record { title = codes "A"; blocks = [] }))
+a_creation = refl
+
+no_slug : creation_in (creation_object (string (codes "a b"))) ≡ None
+no_slug = refl
+
+-- a request of this method and path, with an empty body
+abbrev bare_request : Method → List ℕ → Request
+bare_request method path =
+    record { method = method; path = path; token = None; body = []; close = false }
+
+-- the route is tried before the method, and the method before the form
+a_card : call_of (bare_request Get (codes "/api/pages/2")) ≡ Ok (Page 2)
+unfolding call_of route_of
+a_card = refl
+
+an_unknown_path : call_of (bare_request Other (codes "/api/x")) ≡ Err NotFound
+unfolding call_of route_of
+an_unknown_path = refl
+
+not_built : call_of (bare_request Other (codes "/api/move")) ≡ Err NotBuilt
+unfolding call_of route_of
+not_built = refl
+
+the_wrong_method : call_of (bare_request Post (codes "/api/pages/0")) ≡ Err (WrongMethod allows.Get)
+unfolding call_of route_of
+the_wrong_method = refl
+
+no_form : call_of (bare_request Get (codes "/api/pages/0")) ≡ Err Form
+unfolding call_of route_of
+no_form = refl
+
+for_everybody : call_of (bare_request Get (codes "/home")) ≡ Ok (Public (codes "/home/"))
+unfolding call_of route_of
+for_everybody = refl

@@ -1,0 +1,9 @@
+mod Taking
+mod TakeLemmas
+mod PatternLemmas
+mod Leading
+mod RouteLemmas
+mod CallLemmas
+pub mod FloatLemmas
+mod CallExamples
+mod ResponseExamples

@@ -1,0 +1,97 @@
+//! The call that a request asks for.
+ghost use Rattle.std.specs.Prelude.{◌≡◌, ◌≢◌, Ok, Err, IfOk, IfErr, IsErrOf};
+ghost use Rattle.http_wire.specs.Reading.{request_of};
+ghost use Rattle.wire_model.specs.Routes.{call_of, call_on, creation, card_named, public_page};
+ghost use Rattle.api_routes.specs.Calling.{Answers, MayWant};
+
+use crate::body::read_creation;
+use crate::id::written_id;
+use crate::path::{Route, closed_path};
+use crate::router::Routes;
+use block_content::ContentFault;
+use http_wire::{Allow, Method, Request};
+use std::alloc::Global;
+use wire_model::{Call, RouteFault};
+
+/// What a request asks for, as `Routes::to_call` on a fresh router says. To ask for many, make the
+/// router once.
+pub fn to_call(alloc: Global, request: &Request<'_>) -> Result<Call, RouteFault>
+    ensures ok { IfOk result (λ call. call_of (request_of request.now) ≡ Ok call) }
+    ensures err { IfErr result (λ fault. (fault ≢ RouteFault.Memory)
+        → call_of (request_of request.now) ≡ Err fault) }
+{
+    let Ok(routes) = Routes::new(alloc) else {
+        return Err(RouteFault::Memory);
+    };
+    routes.to_call(alloc, request)
+}
+
+impl Routes {
+    /// What a request asks for, or why it asks nothing: its route is tried first (404, and 501 for
+    /// what is not built yet), then its method (405), and then its form (400).
+    ///
+    /// One look-up of the path, and one pass over the body of a creation. Memory is taken for the
+    /// body of a creation and for the path of a public page alone, and so only these can want it.
+    pub fn to_call(&self, alloc: Global, request: &Request<'_>) -> Result<Call, RouteFault>
+        ensures ok { IfOk result (λ call. call_of (request_of request.now) ≡ Ok call) }
+        ensures err { IfErr result (λ fault. (fault ≢ RouteFault.Memory)
+            → call_of (request_of request.now) ≡ Err fault) }
+        ensures memory { IsErrOf result RouteFault.Memory
+            → MayWant (call_of (request_of request.now)) }
+    {
+        self.answer(alloc, request)
+    }
+
+    /// The same in one clause.
+    fn answer(&self, alloc: Global, request: &Request<'_>) -> Result<Call, RouteFault>
+        ensures { Answers result (call_of (request_of request.now)) }
+    {
+        match self.route(request.path) {
+            Route::Creation => creation_call(alloc, request),
+            Route::Card(text) => card_call(request, text),
+            Route::Unbuilt => Err(RouteFault::NotBuilt),
+            Route::Nowhere => Err(RouteFault::NotFound),
+            Route::Public => public_call(alloc, request),
+        }
+    }
+}
+
+/// What a request to the route that creates pages asks for.
+fn creation_call(alloc: Global, request: &Request<'_>) -> Result<Call, RouteFault>
+    ensures { Answers result (call_on creation (request_of request.now)) }
+{
+    let Method::Post = request.method else {
+        return Err(RouteFault::Method(Allow::Post));
+    };
+    match read_creation(alloc, request.body) {
+        Ok(command) => Ok(Call::Run(command)),
+        Err(ContentFault::Bad) => Err(RouteFault::Form),
+        Err(ContentFault::Memory) => Err(RouteFault::Memory),
+    }
+}
+
+/// What a request to the card of the page that this text names asks for.
+fn card_call(request: &Request<'_>, text: &[u8]) -> Result<Call, RouteFault>
+    ensures { Answers result (call_on (card_named text.now) (request_of request.now)) }
+{
+    let Method::Get = request.method else {
+        return Err(RouteFault::Method(Allow::Get));
+    };
+    match written_id(text) {
+        Some(page) => Ok(Call::Page(page)),
+        None => Err(RouteFault::Form),
+    }
+}
+
+/// What a request to a path for everybody asks for.
+fn public_call(alloc: Global, request: &Request<'_>) -> Result<Call, RouteFault>
+    ensures { Answers result (call_on public_page (request_of request.now)) }
+{
+    let Method::Get = request.method else {
+        return Err(RouteFault::Method(Allow::Get));
+    };
+    match closed_path(alloc, request.path) {
+        Ok(url) => Ok(Call::Public(url)),
+        Err(_) => Err(RouteFault::Memory),
+    }
+}

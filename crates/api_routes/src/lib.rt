@@ -1,0 +1,24 @@
+//! The routes of the API: from a request of HTTP/1.1 to what it asks of the site, and from an answer
+//! to its response, with bodies of JSON (RFC 8259).
+#![tactic(auto)]
+
+mod body;
+mod call;
+mod card;
+mod id;
+mod parts;
+mod path;
+mod refusal;
+mod reply;
+mod response;
+#[cfg(test)]
+mod response_tests;
+mod router;
+#[cfg(test)]
+mod tests;
+
+pub use call::to_call;
+pub use http_wire::{Allow, Method, NoMemory, Request, Response};
+pub use response::to_response;
+pub use router::Routes;
+pub use wire_model::{Answer, Call, RouteFault};

@@ -1,0 +1,279 @@
+//! Requests and what they ask for, at the edges of routes, ids and forms.
+use crate::{Allow, Call, Method, Request, RouteFault, Routes, to_call};
+use site_types::Command;
+use std::alloc::{AllocError, Global};
+use std::test::Fail;
+
+/// A body that asks for a page.
+const CREATION: &[u8] =
+    b"{\"content\":{\"blocks\":[],\"title\":\"A\"},\"parent\":7,\"slug\":\"home\"}";
+
+/// Paths, and what is asked by GET and by POST with a creation.
+const PATHS: &[(&str, &str, &str)] = &[
+    ("/api/pages", "405 POST", "create home below 7"),
+    ("/api/pages/2", "card 2", "405 GET"),
+    ("/api/pages/0000002", "card 2", "405 GET"),
+    ("/api/pages/1000000", "card 1000000", "405 GET"),
+    ("/api/pages/1000001", "400", "405 GET"),
+    ("/api/pages/10000000", "400", "405 GET"),
+    ("/api/pages/00000002", "400", "405 GET"),
+    ("/api/pages/0", "400", "405 GET"),
+    ("/api/pages/+2", "400", "405 GET"),
+    ("/api/pages/2x", "400", "405 GET"),
+    ("/api/pages/{id}", "400", "405 GET"),
+    ("/api/pages/move", "400", "405 GET"),
+    ("/api/pages/", "404", "404"),
+    ("/api/pages/2/", "404", "404"),
+    ("/api/pages//", "404", "404"),
+    ("/api/pagesx", "404", "404"),
+    ("/api/refs/x", "501", "501"),
+    ("/api/desks/2", "501", "501"),
+    ("/api/desks/", "404", "404"),
+    ("/api/desks/2/3", "404", "404"),
+    ("/api/checkpoint", "501", "501"),
+    ("/api/move", "501", "501"),
+    ("/api/move/", "404", "404"),
+    ("/api/Move", "404", "404"),
+    ("/api/unpublish", "501", "501"),
+    ("/api/privacy", "404", "404"),
+    ("/api", "404", "404"),
+    ("/api/", "404", "404"),
+    ("/api/x", "404", "404"),
+    ("/apix", "public /apix/", "405 GET"),
+    ("/home", "public /home/", "405 GET"),
+    ("/home/", "public /home/", "405 GET"),
+    ("/api%2Fpages", "public /api%2Fpages/", "405 GET"),
+    ("//api/pages", "public //api/pages/", "405 GET"),
+    ("/", "public /", "405 GET"),
+    ("", "public /", "405 GET"),
+    ("*", "public */", "405 GET"),
+];
+
+/// What stands behind `/api/` and is not built yet.
+const UNBUILT: &[&str] = &[
+    "move",
+    "delete",
+    "slug",
+    "alias",
+    "detach",
+    "copy",
+    "open",
+    "save",
+    "shut",
+    "file",
+    "publish",
+    "unpublish",
+    "unschedule",
+    "lock",
+    "unlock",
+    "purge",
+    "tasks",
+    "workflows",
+    "assign",
+    "submit",
+    "approve",
+    "reject",
+    "cancel",
+    "users",
+    "groups",
+    "members",
+    "grants",
+    "tick",
+    "checkpoint",
+    "refs/1",
+    "desks/1",
+];
+
+/// Paths that are not UTF-8, and what is asked by GET.
+const BYTE_PATHS: &[(&[u8], &str)] = &[
+    (b"/api/pages/\xff", "400"),
+    (b"/api/refs/\xff", "501"),
+    (b"/api/desks/\xc3", "501"),
+    (b"/api/pages/\xff/", "404"),
+    (b"/api/\xff", "404"),
+    (b"/\xff", "public bytes"),
+];
+
+/// Parents, the insides of the text at slug, and what is asked.
+const MEMBERS: &[(&str, &str, &str)] = &[
+    ("1", "a", "create a below 1"),
+    ("1000000", "a-B_9", "create a-B_9 below 1000000"),
+    ("1", "\\u0061", "create a below 1"),
+    ("0", "a", "400"),
+    ("1000001", "a", "400"),
+    ("18446744073709551616", "a", "400"),
+    ("1.0", "a", "400"),
+    ("1e0", "a", "400"),
+    ("1e400", "a", "400"),
+    ("01", "a", "400"),
+    ("-1", "a", "400"),
+    ("-0", "a", "400"),
+    ("\"1\"", "a", "400"),
+    ("null", "a", "400"),
+    ("1", "", "400"),
+    ("1", "a b", "400"),
+    ("1", "a/", "400"),
+    ("1", "\\u00e9", "400"),
+    ("1", "\\ud800", "400"),
+    ("1", "a\",\"slug\":\"b", "create b below 1"),
+    ("1", "a\",\"slug\":1,\"slug\":\"c", "create c below 1"),
+    ("1", "a\",\"slug\":1e400,\"slug\":\"c", "400"),
+    ("1", "a\",\"url\":\"b", "400"),
+];
+
+/// Bodies that ask for no page.
+const NO_CREATIONS: &[&[u8]] = &[
+    b"",
+    b" ",
+    b"{}",
+    b"[]",
+    b"{\"content\":{\"blocks\":[],\"title\":\"A\"},\"parent\":7}",
+    b"{\"content\":{\"blocks\":[],\"title\":\"\"},\"parent\":7,\"slug\":\"a\"}",
+    b"{\"content\":{\"blocks\":[],\"title\":\"\xc3\"},\"parent\":7,\"slug\":\"a\"}",
+    b"\xef\xbb\xbf{\"content\":{\"blocks\":[],\"title\":\"A\"},\"parent\":7,\"slug\":\"a\"}",
+    b"{\"content\":{\"blocks\":[],\"title\":\"A\"},\"parent\":7,\"slug\":\"a\"",
+    b"{\"content\":{\"blocks\":[],\"title\":\"A\"},\"parent\":7,\"slug\":\"a\"}}",
+];
+
+/// A request of this method, path and body.
+fn request<'b>(method: Method, path: &'b [u8], body: &'b [u8]) -> Request<'b> {
+    Request {
+        method,
+        path,
+        token: None,
+        body,
+        close: false,
+    }
+}
+
+/// The text of these bytes.
+fn text_of(bytes: &[u8]) -> &str {
+    match str::from_utf8(bytes) {
+        Ok(text) => text,
+        Err(_) => "bytes",
+    }
+}
+
+/// A fault in short.
+fn fault_in_short(fault: &RouteFault) -> &'static str {
+    match fault {
+        RouteFault::NotFound => "404",
+        RouteFault::NotBuilt => "501",
+        RouteFault::Method(Allow::Get) => "405 GET",
+        RouteFault::Method(Allow::Post) => "405 POST",
+        RouteFault::Form => "400",
+        RouteFault::Memory => "503",
+    }
+}
+
+/// What is asked, in short.
+fn in_short(alloc: Global, asked: &Result<Call, RouteFault>) -> Result<String, AllocError> {
+    match asked {
+        Ok(Call::Run(Command::Create { parent, slug, .. })) => {
+            let parent = parent.get();
+            let slug = text_of(slug.as_slice());
+            format!(in alloc; "create {slug} below {parent}")
+        }
+        Ok(Call::Run(_)) => String::from_str(alloc, "another command"),
+        Ok(Call::Page(page)) => {
+            let page = page.get();
+            format!(in alloc; "card {page}")
+        }
+        Ok(Call::Public(url)) => {
+            let url = text_of(url.as_slice());
+            format!(in alloc; "public {url}")
+        }
+        Err(fault) => String::from_str(alloc, fault_in_short(fault)),
+    }
+}
+
+/// What a request of this method, path and body asks, in short.
+fn asked(
+    alloc: Global,
+    routes: &Routes,
+    method: Method,
+    path: &[u8],
+    body: &[u8],
+) -> Result<String, AllocError> {
+    in_short(alloc, &routes.to_call(alloc, &request(method, path, body)))
+}
+
+/// A text so many times.
+fn repeated(alloc: Global, text: &str, count: usize) -> Result<String, AllocError> {
+    let mut string = String::new(alloc);
+    for _ in 0..count {
+        string.push_str(text)?;
+    }
+    Ok(string)
+}
+
+#[test]
+fn each_path_has_its_route(rt: HostRuntime) -> Result<(), Fail> {
+    let alloc = rt.alloc();
+    let routes = Routes::new(alloc)?;
+    for (path, got, posted) in PATHS {
+        let path = path.as_bytes();
+        let by_get = asked(alloc, &routes, Method::Get, path, CREATION)?;
+        let by_post = asked(alloc, &routes, Method::Post, path, CREATION)?;
+        assert_eq!(rt; (by_get.as_str(), by_post.as_str()), (*got, *posted));
+    }
+    Ok(())
+}
+
+#[test]
+fn what_is_not_built_yet_is_told_before_the_method(rt: HostRuntime) -> Result<(), Fail> {
+    let alloc = rt.alloc();
+    let routes = Routes::new(alloc)?;
+    for name in UNBUILT {
+        let path = format!(in alloc; "/api/{name}")?;
+        let path = path.as_str().as_bytes();
+        assert_eq!(rt;
+            asked(alloc, &routes, Method::Other, path, b"")?.as_str(),
+            "501"
+        );
+    }
+    Ok(())
+}
+
+#[test]
+fn paths_that_are_not_utf8_have_their_route(rt: HostRuntime) -> Result<(), Fail> {
+    let alloc = rt.alloc();
+    for (path, got) in BYTE_PATHS {
+        let asked = to_call(alloc, &request(Method::Get, path, b""));
+        assert_eq!(rt; in_short(alloc, &asked)?.as_str(), *got);
+    }
+    Ok(())
+}
+
+#[test]
+fn parents_and_slugs_are_read(rt: HostRuntime) -> Result<(), Fail> {
+    let alloc = rt.alloc();
+    for (parent, slug, got) in MEMBERS {
+        let content = "{\"blocks\":[],\"title\":\"A\"}";
+        let body = format!(in alloc;
+            "{{\"slug\":\"{slug}\",\"parent\":{parent},\"content\":{content}}}"
+        )?;
+        let body = body.as_str().as_bytes();
+        let asked = to_call(alloc, &request(Method::Post, b"/api/pages", body));
+        assert_eq!(rt; in_short(alloc, &asked)?.as_str(), *got);
+    }
+    Ok(())
+}
+
+#[test]
+fn bodies_that_are_no_creation(rt: HostRuntime) -> Result<(), Fail> {
+    let alloc = rt.alloc();
+    for body in NO_CREATIONS {
+        let asked = to_call(alloc, &request(Method::Post, b"/api/pages", body));
+        assert_eq!(rt; in_short(alloc, &asked)?.as_str(), "400");
+    }
+    for count in [127, 128] {
+        let opening = repeated(alloc, "[", count)?;
+        let closing = repeated(alloc, "]", count)?;
+        let body = format!(in alloc; "{opening}{closing}")?;
+        let body = body.as_str().as_bytes();
+        let asked = to_call(alloc, &request(Method::Post, b"/api/pages", body));
+        assert_eq!(rt; in_short(alloc, &asked)?.as_str(), "400");
+    }
+    Ok(())
+}

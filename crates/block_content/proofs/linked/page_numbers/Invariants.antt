@@ -1,0 +1,8 @@
+-- The pages of all blocks are those that were found, and then those of the blocks that are left.
+use Rattle.std.proofs.Common.{◌≡◌, ◌++◌, drop}
+use Rattle.block_content.specs.Linked.{pages_in}
+use Rattle.block_content.proofs.linked.page_numbers.Given as goal
+
+abbrev pub invariant-loop-block : goal.invariant-loop-block
+invariant-loop-block l =
+    l.numbers.items ++ pages_in (drop l.block-index l.blocks) ≡ pages_in l.blocks

@@ -1,0 +1,6 @@
+pub mod PeriodLemmas
+pub mod CalendarLemmas
+pub mod CivilLemmas
+pub mod TextLemmas
+pub mod ByteLemmas
+mod Examples

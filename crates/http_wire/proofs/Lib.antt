@@ -1,0 +1,5 @@
+pub mod FieldLemmas
+pub mod WordLemmas
+pub mod ScanLemmas
+pub mod ReadingLemmas
+pub mod PartLemmas

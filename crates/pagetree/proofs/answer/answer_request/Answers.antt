@@ -1,0 +1,14 @@
+-- What is asked is answered.
+use Rattle.http_wire.specs.Reading.{request_of}
+use Rattle.pagetree.proofs.AnswerLemmas.{exchange_called, answers_fault}
+use Rattle.pagetree.proofs.answer.answer_request.Goals as goal
+
+pub returns-in-Ok-clause-ok : goal.returns-in-Ok-clause-ok
+returns-in-Ok-clause-ok c = λ tally ready.
+    rw (exchange_called tally (request_of c.args.request.now) c.args.now c.in-Ok.call
+    c.in-Ok.ensures.ok) (c.answer_call.ensures.ok tally ready)
+
+pub returns-in-Err-clause-ok : goal.returns-in-Err-clause-ok
+returns-in-Err-clause-ok c = λ tally ready.
+    answers_fault c.args.site.now tally (request_of c.args.request.now) c.args.now c.in-Err.fault
+    c.fault_answer.result ready c.in-Err.ensures.err c.fault_answer.ensures

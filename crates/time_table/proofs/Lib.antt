@@ -1,0 +1,4 @@
+pub mod CalendarLemmas
+pub mod ShownLemmas
+pub mod TextLemmas
+pub mod WrittenLemmas

@@ -26,7 +26,7 @@ revision_at n zero (revision ∷ revisions) all =
     rw first refl
 revision_at n (suc place) (revision ∷ revisions) all =
     let other : nat_eq revision.id (n + suc place) ≡ false =
-        let is = all.0 in grind (arith, nat_tests) in
+    let is = all.0 in grind (arith, nat_tests) in
     let same : suc n + place ≡ n + suc place = omega arith in
     rw other (revision_at (suc n) place revisions all.1
     ∙ ap (λ (k : ℕ). revision_with k revisions) same)

@@ -136,7 +136,6 @@ stands_too site other tally pages revisions time page revision last number stand
   number = number ∙ stands.number;
 }
 
-
 -- a site that was ready, and has the same pages and revisions, is ready
 pub ready_too : (site other : Site) (tally : Tally World) → StandsFor other tally →
     IsReady site tally → IsReady other tally
@@ -256,7 +255,7 @@ module _ (tally : Tally World) (creation : Creation) (moment : ℕ) where
       Answers tally (run tally creation.by moment (command_of creation)) (Accepted site.number reply) site
   answers_created site reply taken none made =
       let told : Creates site tally creation moment made_reply =
-          record { reply_is = refl; stands = made.stands; young = made.young } in
+      record { reply_is = refl; stands = made.stands; young = made.young } in
       let then = tally_created none in
       let both = stands_with site told _ then in
       subst (λ (o : Outcome). Answers tally o (Accepted site.number reply) site)

@@ -32,8 +32,7 @@ pub Follows-push : (past : Past) (bytes : List ℕ) (told : List Told) (last : P
     IsFront rest (whole one.request mid) → one.answer ≡ (outcome last one).answer →
     Follows past bytes (told ++ one ∷ []) (after_told last one) mid
 Follows-push past bytes [] last rest one mid follows unclosed asked answer =
-    let same = follows.0 in
-    (
+    let same = follows.0 in (
       mid,
       subst (λ (b : List ℕ). IsFront b (whole one.request mid)) follows.1 asked,
       subst (λ (p : Past). one.answer ≡ (outcome p one).answer) same answer,
@@ -45,23 +44,21 @@ Follows-push past bytes [] last rest one mid follows unclosed asked answer =
     followed_by_nothing : (close : Bool) → EndsWhereClosing close []
     followed_by_nothing true = refl
     followed_by_nothing false = tt
-Follows-push past bytes (first ∷ []) last rest one mid follows unclosed asked answer =
-    (
-      follows.0,
-      follows.1,
-      follows.2,
-      open_goes_on first.request.close (one ∷ []) unclosed,
-      Follows-push (after_told past first) follows.0 [] last rest one mid follows.4 refl asked answer,
-    )
-Follows-push past bytes (first ∷ next ∷ told) last rest one mid follows unclosed asked answer =
-    (
-      follows.0,
-      follows.1,
-      follows.2,
-      followed_goes_on first.request.close next told (next ∷ told ++ one ∷ []) follows.3,
-      Follows-push (after_told past first) follows.0 (next ∷ told) last rest one mid follows.4 unclosed
+Follows-push past bytes (first ∷ []) last rest one mid follows unclosed asked answer = (
+  follows.0,
+  follows.1,
+  follows.2,
+  open_goes_on first.request.close (one ∷ []) unclosed,
+  Follows-push (after_told past first) follows.0 [] last rest one mid follows.4 refl asked answer,
+)
+Follows-push past bytes (first ∷ next ∷ told) last rest one mid follows unclosed asked answer = (
+  follows.0,
+  follows.1,
+  follows.2,
+  followed_goes_on first.request.close next told (next ∷ told ++ one ∷ []) follows.3,
+  Follows-push (after_told past first) follows.0 (next ∷ told) last rest one mid follows.4 unclosed
       asked answer,
-    )
+)
 
 -- the last request of a longer transcript
 pub closes-push : (told : List Told) (one : Told) → closes (told ++ one ∷ []) ≡ one.request.close
@@ -76,11 +73,10 @@ pub HasMoments-push : (coming : ℕ → Option ℕ) (place : ℕ) (told : List T
     HasMoments coming place (told ++ one ∷ [])
 HasMoments-push coming place [] one moments last = (rw add-zero at last, tt)
 HasMoments-push coming place (first ∷ told) one moments last =
-    let n : place + length (first ∷ told) ≡ (place + 1) + length told = omega arith in
-    (
+    let n : place + length (first ∷ told) ≡ (place + 1) + length told = omega arith in (
       moments.0,
       HasMoments-push coming (place + 1) told one moments.1
-      (subst (λ (k : ℕ). IfSome (coming k) (λ moment. one.moment ≡ moment)) n last),
+          (subst (λ (k : ℕ). IfSome (coming k) (λ moment. one.moment ≡ moment)) n last),
     )
 
 -- one answer more

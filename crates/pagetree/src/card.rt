@@ -45,10 +45,7 @@ fn shown_content(alloc: Global, shown: Option<&Revision>) -> Result<(Text, Block
     match shown {
         None => {
             let title = String::from_str(alloc, "Root")?;
-            Ok((
-                Text::from_string(title),
-                Blocks::from_vec(Vec::new(alloc)),
-            ))
+            Ok((Text::from_string(title), Blocks::from_vec(Vec::new(alloc))))
         }
         Some(revision) => {
             let title = revision.content.title().copy(alloc)?;

@@ -141,12 +141,7 @@ impl Site {
     }
 
     /// Makes the page of a creation that is not refused. All memory is taken first.
-    fn create(
-        &mut self,
-        alloc: Global,
-        creation: Creation,
-        now: Moment,
-    ) -> Result<Reply, NoMemory>
+    fn create(&mut self, alloc: Global, creation: Creation, now: Moment) -> Result<Reply, NoMemory>
         requires { (tally : Tally World) × IsReady self.old tally × IsTaken tally creation.parent
             × (create_refusal tally.world.part creation.parent creation.slug ≡ None) }
         ensures ok { (tally : Tally World) → IsReady self.old tally → IsTaken tally creation.parent
@@ -260,13 +255,7 @@ fn page_url(alloc: Global, slug: &Slug) -> Result<Url, NoMemory>
 }
 
 /// The row of a page that is made below the root, with its first revision.
-fn new_row(
-    owner: UserId,
-    page: PageId,
-    revision: RevisionId,
-    step: Step,
-    slug: Slug,
-) -> PageRow
+fn new_row(owner: UserId, page: PageId, revision: RevisionId, step: Step, slug: Slug) -> PageRow
     ensures { result ≡ fresh_row owner page revision step slug }
 {
     PageRow {

@@ -203,7 +203,16 @@ fn each_request_has_its_answer(rt: HostRuntime) -> Result<(), Fail> {
     expect_session(
         &rt,
         rt.alloc(),
-        &[HOME, CARD, DELETE, NOBODY, NOWHERE, EMPTY, below.as_bytes(), HOME],
+        &[
+            HOME,
+            CARD,
+            DELETE,
+            NOBODY,
+            NOWHERE,
+            EMPTY,
+            below.as_bytes(),
+            HOME,
+        ],
         &[
             CREATED,
             CARD_OF_HOME,

@@ -113,9 +113,13 @@ whole_stays bytes more rest request is = final_stays bytes more (whole request r
 pub transcript_stays : (past after : Past) (bytes rest more : List ℕ) (told : List Told) →
     Follows past bytes told after rest → Follows past (bytes ++ more) told after (rest ++ more)
 transcript_stays past after bytes rest more [] h = (h.0, ap (λ (bs : List ℕ). bs ++ more) h.1)
-transcript_stays past after bytes rest more (x ∷ told) h =
-    (h.0 ++ more, whole_stays bytes more h.0 x.request h.1, h.2, h.3,
-      transcript_stays (after_told past x) after h.0 rest more told h.4)
+transcript_stays past after bytes rest more (x ∷ told) h = (
+  h.0 ++ more,
+  whole_stays bytes more h.0 x.request h.1,
+  h.2,
+  h.3,
+  transcript_stays (after_told past x) after h.0 rest more told h.4,
+)
 
 -- two moments that a clock gives at one place are one
 one_moment : (o : Option ℕ) (m n : ℕ) → IsSome o → IfSome o (λ moment. m ≡ moment) →
@@ -138,8 +142,8 @@ one_told : (past : Past) (x y : Told) → x.request ≡ y.request → x.moment �
     x.answer ≡ (outcome past x).answer → y.answer ≡ (outcome past y).answer → x ≡ y
 one_told past x y same at_once is other_is =
     let answers : x.answer ≡ y.answer =
-        is ∙ (ap (λ (p : Request × ℕ). (exchange (tally_of past) p.0 p.1).answer)
-        (λ i. (same i, at_once i)) ∙ sym other_is) in
+    is ∙ (ap (λ (p : Request × ℕ). (exchange (tally_of past) p.0 p.1).answer)
+    (λ i. (same i, at_once i)) ∙ sym other_is) in
     λ i. record { request = same i; moment = at_once i; answer = answers i }
 
 -- of two transcripts the longer begins with the shorter, and goes on from where that ended
@@ -159,9 +163,9 @@ longer_begins_with_shorter coming place past after later bytes rest left (x ∷ 
     let at_once = one_moment (coming place) x.moment y.moment (tells place) m.0 n.0 in
     let alike : x ≡ y = one_told past x y same.0 at_once h.2 k.2 in
     let onward = subst (λ (p : Told × List ℕ). Follows (after_told past p.0) p.1 other later left)
-        (λ i. (sym alike i, sym same.1 i)) k.4 in
+    (λ i. (sym alike i, sym same.1 i)) k.4 in
     let rest_of = longer_begins_with_shorter coming (place + 1) (after_told past x) after later h.0
-        rest left told other tells m.1 n.1 h.4 onward (omega arith) in
+    rest left told other tells m.1 n.1 h.4 onward (omega arith) in
     (rest_of.0, (λ i. sym alike i ∷ rest_of.1 i), rest_of.2)
 
 -- no transcript goes on where as many requests are told
@@ -181,7 +185,7 @@ pub one_transcript : (coming : ℕ → Option ℕ) (place : ℕ) (past after lat
     length told ≡ length other → (told ≡ other) × (after ≡ later) × (rest ≡ left)
 one_transcript coming place past after later bytes rest left told other tells m n h k e =
     let both = longer_begins_with_shorter coming place past after later bytes rest left told other
-        tells m n h k (omega arith) in
+    tells m n h k (omega arith) in
     ends_alike after later rest left told other both.0 e both.1 both.2
 
 -- where no request is left no transcript goes on
@@ -236,6 +240,6 @@ closing_is_last coming place past after later bytes rest left told other tells m
           let whole_of = subst (λ (os : List Told). Follows past bytes os later left) both.1 k in
           let none = closed_goes_nowhere past later bytes left told both.0 last whole_of in
           let same : other ≡ told = both.1 ∙ (ap (λ (os : List Told). told ++ os) none
-              ∙ append-nil told) in
+          ∙ append-nil told) in
           omega (arith, ap length same))
     ]

@@ -9,4 +9,6 @@ mod words;
 
 pub use answer::Answer;
 pub use call::{Call, RouteFault};
-pub use words::{ANSWER_LIMIT, API, API_FRONT, CARD_FRONT, DESKS_FRONT, KNOWN_TOKEN, PAGES, REFS_FRONT};
+pub use words::{
+    ANSWER_LIMIT, API, API_FRONT, CARD_FRONT, DESKS_FRONT, KNOWN_TOKEN, PAGES, REFS_FRONT,
+};

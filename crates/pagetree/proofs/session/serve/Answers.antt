@@ -36,7 +36,7 @@ returns-then-answered-eq-ANSWER_LIMIT-clause-ends g c = λ bytes told.
     let front = rw c.bytes.ensures at c.in-Whole.ensures.front in
     let ready = is_ready _ _ _ _ _ _ _ _ _ so few in
     let written = rw c.is_last-last.ensures at
-        (c.in-Ok.ensures.exchanged (tally_of so.past) ready) in
+    (c.in-Ok.ensures.exchanged (tally_of so.past) ready) in
     ends_spent _ _ _ _ _ _ _ _ _ _ so _ _ front.1 front.0 _ written.was bytes _ told few
     c.if-answered-eq-ANSWER_LIMIT.true written.written
 
@@ -47,7 +47,7 @@ returns-then-request-clause-ends g c = λ bytes told.
     let front = rw c.bytes.ensures at c.in-Whole.ensures.front in
     let ready = is_ready _ _ _ _ _ _ _ _ _ so few in
     let written = rw c.is_last-last.ensures at
-        (c.in-Ok.ensures.exchanged (tally_of so.past) ready) in
+    (c.in-Ok.ensures.exchanged (tally_of so.past) ready) in
     ends_closed _ _ _ _ _ _ _ _ _ _ so _ _ front.1 front.0 _ written.was bytes _ told
     (omega (arith, c.if-answered-eq-ANSWER_LIMIT.false)) c.if-request.true written.written
 
@@ -58,9 +58,9 @@ turns-preserved-in-Whole g c =
     let front = rw c.bytes.ensures at c.in-Whole.ensures.front in
     let ready = is_ready _ _ _ _ _ _ _ _ _ so few in
     let written = rw c.is_last-last.ensures at
-        (c.in-Ok.ensures.exchanged (tally_of so.past) ready) in
+    (c.in-Ok.ensures.exchanged (tally_of so.past) ready) in
     let more = answered_more _ _ _ _ _ _ _ _ _ _ so _ _ front.1 front.0 _ written.was _ _
-        c.if-request.false written.written c.exchange.ensures.clock in
+    c.if-request.false written.written c.exchange.ensures.clock in
     record {
       so = rw c.skip.ensures more;
       knows = c.in-Whole.ensures.knows _;
@@ -89,7 +89,7 @@ returns-in-Ok-eq0-clause-ends g c = λ bytes told.
     let front = rw c.bytes.ensures at c.in-Partial.ensures.front in
     let ends = c.in-Ok-eq0.ensures.ends c.in-Ok-eq0.field-0-test in
     let later = more_held _ _ _ _ _ _ _ _ _ _ so _ _ _ c.fill.ensures.grows.1
-        c.fill.ensures.bytes in
+    c.fill.ensures.bytes in
     rw (c.ended.ensures, c.bytes-in-Ok-eq0.ensures)
     (ends_as_ended c.fill.new.self bytes _ _ _ _ (ends_at_end _ _ _ _ _ _ _ _ _ _ later bytes told
     c.turns.invariant.few ends.1 (rw ends.0 front)))

@@ -9,7 +9,7 @@ returns-then-is_word t c =
     let words = c.args.words.now in
     let value = c.as_bytes-then-is_word.ensures.value in
     let told = sym (c.with_at.ensures ∙ (ap (with_at c.args.options) (c.number_in.ensures
-        ∙ ap number_in value))) ∙ c.in-Some.is in
+    ∙ ap number_in value))) ∙ c.in-Some.is in
     c.options_behind.ensures
     ∙ sym (ap (options_behind c.args.options) (two_of words c.word-item-2.result
     c.value-item.result c.in-len2-up.len_at_least c.word-item-2.is c.value-item.is)
@@ -21,7 +21,7 @@ returns-then-is_word-2 t c =
     let words = c.args.words.now in
     let value = c.as_bytes-then-is_word-2.ensures.value in
     let told = sym (c.with_step.ensures ∙ (ap (with_step c.args.options)
-        (c.number_in-then-is_word-2.ensures ∙ ap number_in value))) ∙ c.in-Some-with_step.is in
+    (c.number_in-then-is_word-2.ensures ∙ ap number_in value))) ∙ c.in-Some-with_step.is in
     c.options_behind-then-is_word-2.ensures
     ∙ sym (ap (options_behind c.args.options) (two_of words c.word-item-2.result
     c.value-item.result c.in-len2-up.len_at_least c.word-item-2.is c.value-item.is)
@@ -34,7 +34,7 @@ returns-in-Some-with_joined t c =
     let words = c.args.words.now in
     let word = c.as_bytes-in-len2-up.ensures.value in
     let told = sym (c.with_joined-in-len2-up.ensures
-        ∙ ap (with_joined c.args.options) word) ∙ c.in-Some-with_joined.is in
+    ∙ ap (with_joined c.args.options) word) ∙ c.in-Some-with_joined.is in
     c.options_behind-in-len2-up.ensures
     ∙ (ap (options_behind c.in-Some-with_joined.more) (one_of words c.value-item.result
     c.in-len2-up.len_at_least c.value-item.is)

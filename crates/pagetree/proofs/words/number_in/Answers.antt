@@ -31,9 +31,9 @@ returns c =
     let word = c.args.word.now in
     let all = take_all c.loop-b.b-index word c.loop-b-test.false in
     let digits : list_all is_ascii_digit word ≡ true =
-        ap (list_all is_ascii_digit) (sym all) ∙ c.loop-b.invariant.digits in
+    ap (list_all is_ascii_digit) (sym all) ∙ c.loop-b.invariant.digits in
     let number : c.loop-b.n ≡ min (digits_value 10 word) 999999999999 =
-        c.loop-b.invariant.number ∙ ap (λ xs. min (digits_value 10 xs) 999999999999) all in
+    c.loop-b.invariant.number ∙ ap (λ xs. min (digits_value 10 xs) 999999999999) all in
     number_of_digits word c.loop-b.n
     (grind (arith, nat_tests, c.is_empty.ensures, c.if-is_empty.false))
     c.if-word-gt-MAX_DIGITS.false digits number

@@ -1,25 +1,17 @@
 -- What bodies, ids and public paths are by the definition.
-use Rattle.std.proofs.Common.{◌≡◌, ◌≢◌, Result, Ok, Err, IfOk, IfErr, ℕ, zero, suc, ◌+◌, ◌-◌, ◌*◌, ◌≤◌, ◌<◌, List, [], ◌∷◌, ◌++◌, length, take, drop, get_or, min, Option, Some, None, Bool, true, false, ◌==◌, ◌&&◌, nat_le, cond, refl, sym, ap, ◌∙◌, arith, rules}
-use Rattle.std.specs.Prelude.{if◌then◌else◌, option_map, IsErrOf}
-use Rattle.std.specs.Bool.{then_some}
-use Rattle.std.specs.Char.{is_ascii_digit}
-use Rattle.std.specs.List.{list_all}
+use Rattle.std.proofs.Common.{◌≡◌, ◌≢◌, Result, Ok, Err, IfOk, IfErr, ℕ, suc, ◌+◌, ◌-◌, ◌*◌, ◌<◌, List, [], ◌∷◌, ◌++◌, length, get_or, min, None, Bool, true, false, ◌==◌, refl, ap, ◌∙◌, arith}
+use Rattle.std.specs.Prelude.{if◌then◌else◌, IsErrOf}
 use Rattle.std.specs.Str.{IsUtf8, is_utf8}
-use Rattle.std.specs.Str.Parse.{digits_value}
-use Rattle.std.proofs.lemmas.Bool.Decides.{nat_tests}
 use Rattle.std.proofs.lemmas.Str.{IsUtf8-from_is_utf8, is_utf8-from_IsUtf8}
-use Rattle.serde_json.specs.Data.{Data}
 use Rattle.serde_json.specs.Read.{read}
 use Rattle.http_model.specs.Requests.{Request}
 use Rattle.site_types.specs.declared.command.Command.{Command}
 use Rattle.block_content.specs.Reads.{Reads}
 use Rattle.block_content.specs.declared.fault.ContentFault.{ContentFault}
 use Rattle.block_content.specs.declared.fault.ContentFault.TheVariants.{Bad, Memory}
-use Rattle.wire_model.specs.Routes.{Route, data_of, text_of_body, closed_path, creation_asked, route_of, call_on, call_of, or_fault}
+use Rattle.wire_model.specs.Routes.{Route, data_of, text_of_body, closed_path, creation_asked, route_of, call_on, call_of}
 use Rattle.wire_model.specs.declared.call.Call.{Call}
-use Rattle.wire_model.specs.declared.call.Call.TheVariants.{Run}
 use Rattle.wire_model.specs.declared.call.RouteFault.{RouteFault}
-use Rattle.wire_model.specs.declared.call.RouteFault.TheVariants as RouteFault
 use Rattle.api_routes.specs.Calling.{ends_with_slash, Answers, MayWant}
 
 -- a body that is not UTF-8 is no JSON

@@ -1,9 +1,9 @@
 -- What a router with simple patterns finds: a route that takes the path, where there is one.
-use Rattle.std.proofs.Common.{◌≡◌, ◌≢◌, ℕ, zero, suc, ◌+◌, ◌-◌, List, [], ◌∷◌, ◌++◌, length, Option, Some, None, MatchOption, Bool, true, false, ◌==◌, ◌&&◌, ◌||◌, not, cond, refl, sym, ap, ◌∙◌, subst, arith, nat_eq}
+use Rattle.std.proofs.Common.{◌≡◌, ◌≢◌, ℕ, zero, suc, ◌-◌, List, [], ◌∷◌, length, Option, Some, None, MatchOption, Bool, true, false, ◌==◌, ◌&&◌, ◌||◌, not, cond, refl, ap, ◌∙◌, arith}
 use Rattle.std.proofs.lemmas.Bool.Decides.{nat_tests}
 use Rattle.matchit.specs.Rows.{RowsOf, param_token, catch_all_token}
-use Rattle.matchit.specs.Seek.{own, step, or_else, seek, param_step, has_slash, longest_from, longest_suffix, segment, better}
-use Rattle.api_routes.proofs.Taking.{takes, end_step, IsSimple, AllSimple, AllAtEnd, AllLead, NoneTakes, NoParameterTakes, is_simple, all_simple, may_follow}
+use Rattle.matchit.specs.Seek.{own, step, or_else, seek, param_step, has_slash, longest_from, segment}
+use Rattle.api_routes.proofs.Taking.{takes, end_step, IsSimple, AllSimple, AllAtEnd, AllLead, NoneTakes, NoParameterTakes, is_simple, all_simple}
 
 -- a first answer stands before none
 pub or_else-none : {K : Type 0} (o : Option K) → or_else o None ≡ o

@@ -6,7 +6,6 @@ use Rattle.wire_model.specs.declared.words.TheConstants.{CARD_FRONT}
 use Rattle.api_routes.specs.declared.path.Route.{Route}
 use Rattle.api_routes.specs.declared.path.Route.TheVariants.{Creation, Card, Unbuilt, Nowhere, Public}
 use Rattle.api_routes.specs.declared.router.Target.{Target}
-use Rattle.api_routes.specs.declared.router.Target.TheVariants as Target
 
 -- the route that the code names so
 abbrev pub route_meant : Route → routes.Route

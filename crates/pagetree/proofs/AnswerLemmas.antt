@@ -1,5 +1,5 @@
 -- What a request comes to, by what it asks for.
-use Rattle.std.proofs.Common.{◌≡◌, ℕ, Result, Ok, Err, IfOk, refl, sym, ap, subst, ◌∙◌}
+use Rattle.std.proofs.Common.{◌≡◌, ℕ, Result, Ok, Err, IfOk, refl, sym, ap, ◌∙◌}
 use Rattle.http_model.specs.Requests.{Request}
 use Rattle.site_history.specs.History.{Tally}
 use Rattle.site_model.specs.World.{World}

@@ -1,5 +1,5 @@
 -- Committing a creation: what the site has before and after it, and what the world has.
-use Rattle.std.proofs.Common.{◌≡◌, ◌<◌, ◌+◌, ℕ, List, [], ◌∷◌, ◌++◌, None, refl, sym, ap, ◌∙◌, arith, max, length, length-append}
+use Rattle.std.proofs.Common.{◌≡◌, ◌<◌, ◌+◌, ℕ, List, [], ◌∷◌, ◌++◌, None, refl, sym, ap, ◌∙◌, arith, max, length-append}
 use Rattle.page_tree.specs.Tree.{Forest, bare, grown, kid_with_slug, kids_of, last_step, put_last, AllIds}
 use Rattle.page_tree.specs.Rows.{rows_of, with_row}
 use Rattle.page_tree.proofs.RowLemmas.{AllIds-weaker}

@@ -10,3 +10,4 @@ pub mod SiteLemmas
 pub mod SoFarLemmas
 pub mod TranscriptLemmas
 pub mod WordLemmas
+pub mod EndLemmas

@@ -1,5 +1,5 @@
 -- What the rows of a site say of the world that it stands for, before a creation and after it.
-use Rattle.std.proofs.Common.{◌≡◌, ◌≤◌, ◌<◌, ◌+◌, ℕ, Bool, true, false, not, ◌||◌, ◌==◌, List, [], ◌∷◌, ◌++◌, Option, Some, None, Ok, Err, is_some, cond, nat_eq, refl, sym, ap, subst, ◌∙◌, arith, IsTrue, ◌&&◌, length, length-append, get_or, suc, zero}
+use Rattle.std.proofs.Common.{◌≡◌, ◌+◌, ℕ, Bool, true, false, not, ◌||◌, ◌==◌, List, [], ◌∷◌, Option, Some, None, is_some, cond, nat_eq, refl, sym, ap, subst, ◌∙◌, arith, IsTrue}
 use Rattle.std.specs.Borrow.{Bor}
 use Rattle.std.specs.Option.{option_copied, option_map}
 use Rattle.std.proofs.lemmas.Bool.Decides.{nat_tests}
@@ -20,14 +20,12 @@ use Rattle.site_types.specs.declared.command.Command.{Command}
 use Rattle.site_types.specs.declared.command.Command.TheVariants.{Create}
 use Rattle.site_types.specs.declared.entry.Entry.{Entry}
 use Rattle.site_history.specs.History.{Tally, accepted}
-use Rattle.public_view.specs.declared.card.Card.{Card}
 use Rattle.wire_model.specs.declared.answer.Answer.{Answer}
 use Rattle.site_model.specs.World.{World}
-use Rattle.site_model.specs.Create.{create_refusal, or_then, created, page_reply}
+use Rattle.site_model.specs.Create.{create_refusal, or_then, page_reply}
 use Rattle.site_model.specs.Step.{step, tree_step, without_desks}
-use Rattle.wire_model.specs.declared.answer.Answer.TheVariants.{Accepted, Refused, NotBuilt, Page as CardTold}
-use Rattle.wire_model.specs.Cards.{card_of}
-use Rattle.wire_model.specs.Exchange.{Outcome, telling, number_of, is_built, entry_of, entered, run, card_told}
+use Rattle.wire_model.specs.declared.answer.Answer.TheVariants.{Accepted, Refused, NotBuilt}
+use Rattle.wire_model.specs.Exchange.{Outcome, telling, is_built, entry_of, entered, run}
 use Rattle.pagetree.specs.declared.site.Site.{Site}
 use Rattle.pagetree.specs.declared.creation.Creation.{Creation}
 use Rattle.pagetree.specs.Standing.{StandsFor, IsYoung, IsReady, IsTaken, command_of, after_creation, Creates, CanCommit, tally_with, Answers}

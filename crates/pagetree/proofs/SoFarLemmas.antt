@@ -1,5 +1,5 @@
 -- What a session has done so far, and how one turn goes on from it or ends it.
-use Rattle.std.proofs.Common.{◌≡◌, ◌≤◌, ◌<◌, ◌+◌, ◌⊎◌, inl, inr, ℕ, Bool, true, false, List, [], ◌∷◌, ◌++◌, Option, Some, None, IfSome, length, take, drop, refl, sym, ap, subst, ◌∙◌, arith}
+use Rattle.std.proofs.Common.{◌≡◌, ◌≤◌, ◌<◌, ◌+◌, inl, inr, ℕ, true, false, List, [], ◌∷◌, ◌++◌, Option, Some, None, IfSome, length, take, drop, refl, sym, ap, subst, ◌∙◌, arith}
 use Rattle.std.proofs.lemmas.List.{append_assoc, append-nil, take-append-drop, length-append}
 use Rattle.outside_world.specs.Source.{with_front, IsSpent}
 use Rattle.outside_world.specs.Sink.{with_back, AppendsPart}
@@ -9,13 +9,12 @@ use Rattle.http_model.specs.Requests.{Request, whole, part, refused, IsFront}
 use Rattle.http_model.proofs.FinalLemmas.{final_stays}
 use Rattle.wire_model.specs.declared.answer.Answer.TheVariants.{Head}
 use Rattle.wire_model.specs.declared.words.TheConstants.{ANSWER_LIMIT}
-use Rattle.wire_model.specs.Exchange.{Past, tally_of, exchange}
+use Rattle.wire_model.specs.Exchange.{Past, tally_of}
 use Rattle.wire_model.specs.Transcript.{Told, Follows, HasMoments, closes, after_told, outcome, answer_text, is_last, text_of}
 use Rattle.pagetree.specs.declared.site.Site.{Site}
-use Rattle.pagetree.specs.declared.status.Status.{Status}
-use Rattle.pagetree.specs.declared.status.Status.TheVariants.{Done, Cut, Refused, Spent}
+use Rattle.pagetree.specs.declared.status.Status.TheVariants.{Done, Refused, Spent}
 use Rattle.pagetree.specs.Beginning.{ended_by}
-use Rattle.pagetree.specs.Standing.{StandsFor, IsYoung, Answers}
+use Rattle.pagetree.specs.Standing.{StandsFor, IsYoung}
 use Rattle.pagetree.specs.Exchanging.{WasAnswered}
 use Rattle.pagetree.specs.Ending.{MayGoOn, IsEnd, last_text, Reached, EndsAsTold, EndsAtRead, EndsInAnswer, EndsInRefusal, EndsEarly, EndsUnanswered}
 use Rattle.pagetree.proofs.TranscriptLemmas.{Follows-push, HasMoments-push, text_of-push, closes-push, tally_of-grown}

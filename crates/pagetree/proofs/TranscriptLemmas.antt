@@ -1,12 +1,12 @@
 -- A transcript with one more request at its end.
-use Rattle.std.proofs.Common.{◌≡◌, ◌≤◌, ◌+◌, ℕ, Bool, true, false, List, [], ◌∷◌, ◌++◌, Option, IfSome, length, refl, sym, ap, subst, ◌∙◌, arith, add-zero}
+use Rattle.std.proofs.Common.{◌≡◌, ◌+◌, ℕ, Bool, true, false, List, [], ◌∷◌, ◌++◌, Option, IfSome, length, refl, sym, ap, subst, arith, add-zero}
 use Rattle.std.proofs.lemmas.List.{append_assoc, append-nil}
 use Rattle.site_types.specs.declared.entry.Entry.{Entry}
 use Rattle.site_types.specs.declared.reply.Reply.{Reply}
 use Rattle.site_history.specs.History.{Item}
 use Rattle.site_history.proofs.HistoryLemmas.{tick_all-append}
 use Rattle.site_model.specs.Step.{step}
-use Rattle.http_model.specs.Requests.{Request, whole, IsFront}
+use Rattle.http_model.specs.Requests.{whole, IsFront}
 use Rattle.wire_model.specs.Exchange.{Past, number_of, tally_of, grown_by}
 use Rattle.wire_model.specs.Transcript.{Told, outcome, after_told, EndsWhereClosing, Follows, HasMoments, closes, answer_text, is_last, text_behind, text_of}
 use Rattle.pagetree.specs.Standing.{tally_with}

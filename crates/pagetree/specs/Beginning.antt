@@ -2,7 +2,6 @@
 use Rattle.std.specs.Prelude.{◌≡◌, ℕ, true, List, [], ◌∷◌, length, Option}
 use Rattle.outside_world.specs.Sink.{with_back, AppendsPart}
 use Rattle.site_model.specs.Start.{new_world}
-use Rattle.site_history.specs.History.{Tally}
 use Rattle.wire_model.specs.declared.answer.Answer.TheVariants.{Head}
 use Rattle.wire_model.specs.Transcript.{answer_text}
 use Rattle.wire_model.specs.Exchange.{Past}

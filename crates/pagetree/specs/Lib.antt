@@ -5,3 +5,4 @@ pub mod Beginning
 pub mod Ending
 pub mod Words
 pub mod Codes
+pub mod Laws

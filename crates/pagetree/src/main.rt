@@ -7,6 +7,7 @@ mod card;
 mod creation;
 mod exchange;
 mod held;
+mod laws;
 mod options;
 mod run;
 mod session;

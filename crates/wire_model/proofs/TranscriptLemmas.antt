@@ -1,5 +1,5 @@
 -- Laws of transcripts: what they leave, and that there is one.
-use Rattle.std.proofs.Common.{◌≡◌, ◌≤◌, ◌+◌, ℕ, Bool, true, false, List, [], ◌∷◌, ◌++◌, length, Option, Some, None, Result, Ok, Err, refl, sym, ap, subst, ◌∙◌, inl, inr, arith, append_assoc, length-append}
+use Rattle.std.proofs.Common.{◌≡◌, ◌≤◌, ◌+◌, ℕ, Bool, true, false, List, [], ◌∷◌, ◌++◌, length, Option, Some, None, Result, Ok, Err, refl, sym, ap, subst, ◌∙◌, inl, inr, arith, length-append}
 use Rattle.std.proofs.lemmas.Bool.{cases_lt}
 use Rattle.std.proofs.lemmas.List.{append-nil}
 use Rattle.std.specs.Prelude.{IsSome, IfSome, IsTrue}
@@ -7,10 +7,10 @@ use Rattle.site_types.specs.declared.command.Command.{Command}
 use Rattle.site_types.specs.declared.entry.Entry.{Entry}
 use Rattle.site_types.specs.declared.refusal.Refusal.{Refusal}
 use Rattle.site_types.specs.declared.reply.Reply.{Reply}
-use Rattle.site_history.specs.History.{Tally, Item, accepted, tick, tick_all, AllMayStand, reply_of}
+use Rattle.site_history.specs.History.{Tally, Item, tick, tick_all, AllMayStand, reply_of}
 use Rattle.site_model.specs.World.{World}
 use Rattle.site_model.specs.Step.{step}
-use Rattle.http_model.specs.Requests.{Request, Front, whole, IsFront}
+use Rattle.http_model.specs.Requests.{Request, whole, IsFront}
 use Rattle.http_model.proofs.FrontLemmas.{one_front}
 use Rattle.http_model.proofs.FinalLemmas.{final_stays}
 use Rattle.public_view.specs.declared.card.Card.{Card}
@@ -19,7 +19,7 @@ use Rattle.wire_model.specs.declared.call.Call.TheVariants.{Run, Page, Public}
 use Rattle.wire_model.specs.declared.call.RouteFault.{RouteFault}
 use Rattle.wire_model.specs.Cards.{card_of}
 use Rattle.wire_model.specs.Routes.{call_of}
-use Rattle.wire_model.specs.Exchange.{Past, IsLegal, number_of, tally_of, grown_by, user_of, is_built, entry_of, Outcome, decided, entered, run, card_told, called, called_by, called_with, asked, exchange}
+use Rattle.wire_model.specs.Exchange.{Past, IsLegal, number_of, tally_of, user_of, is_built, entry_of, Outcome, decided, run, card_told, called, called_by, called_with, asked, exchange}
 use Rattle.wire_model.specs.Transcript.{Told, outcome, after_told, EndsWhereClosing, Follows, closes, HasMoments}
 use Rattle.wire_model.specs.Laws.{AsksNothing}
 

@@ -1,12 +1,11 @@
 -- The answers to requests as responses with bodies of JSON (RFC 8259), the members of each object in
 -- the byte order of their names.
-use Rattle.std.specs.Prelude.{◌≡◌, ℕ, Bool, true, false, not, ◌==◌, ◌||◌, List, [], ◌∷◌, map, codes, Option, Some, None, if◌then◌else◌}
+use Rattle.std.specs.Prelude.{ℕ, Bool, true, false, not, ◌==◌, ◌||◌, List, map, codes, Option, Some, None, if◌then◌else◌}
 use Rattle.serde_json.specs.Data.{Data, null, boolean, unsigned, number, string, array, object, Members, no_members, member}
 use Rattle.serde_json.specs.View.{items_of}
 use Rattle.serde_json.specs.Written.{compact_text}
 use Rattle.http_model.specs.declared.status.StatusCode.{StatusCode}
 use Rattle.http_model.specs.declared.status.StatusCode.TheVariants as statuses
-use Rattle.http_model.specs.declared.method.Allow.{Allow}
 use Rattle.http_model.specs.Responses.{Response}
 use Rattle.civil_time.specs.TimeText.{time_text}
 use Rattle.public_view.specs.declared.card.Card.{Card}

@@ -1,5 +1,5 @@
 -- The cards of pages: what a page's row, its URL and the content that it shows tell.
-use Rattle.std.specs.Prelude.{ℕ, ◌==◌, List, [], ◌∷◌, length, codes, find, Option, Some, None, option_map, option_and_then}
+use Rattle.std.specs.Prelude.{ℕ, ◌==◌, List, [], length, codes, find, Option, Some, None, option_map, option_and_then}
 use Rattle.page_tree.specs.Rows.{Row, rows_of, row_with}
 use Rattle.step_path.specs.Path.{path_text}
 use Rattle.site_types.specs.Content.{ContentValue}

@@ -1,5 +1,5 @@
 -- The routes: which call the method, the path and the body of a request ask for.
-use Rattle.std.specs.Prelude.{ℕ, Bool, true, false, ◌==◌, ◌&&◌, ◌||◌, not, nat_le, List, [], ◌∷◌, ◌++◌, length, take, drop, codes, Option, Some, None, option_map, option_and_then, Result, Ok, Err, bytes_eq, if◌then◌else◌}
+use Rattle.std.specs.Prelude.{ℕ, Bool, ◌==◌, ◌&&◌, ◌||◌, not, List, [], ◌∷◌, ◌++◌, length, take, drop, codes, Option, Some, None, option_map, option_and_then, Result, Ok, Err, bytes_eq, if◌then◌else◌}
 use Rattle.std.specs.Bool.{then_some}
 use Rattle.std.specs.List.{list_all, list_any}
 use Rattle.std.specs.Char.{is_ascii_digit}
@@ -9,7 +9,7 @@ use Rattle.serde_json.specs.Data.{Data}
 use Rattle.serde_json.specs.Find.{get}
 use Rattle.serde_json.specs.Read.{read}
 use Rattle.http_model.specs.declared.method.Method.{Method}
-use Rattle.http_model.specs.declared.method.Method.TheVariants.{Get, Post, Other}
+use Rattle.http_model.specs.declared.method.Method.TheVariants.{Get, Post}
 use Rattle.http_model.specs.declared.method.Allow.TheVariants as allows
 use Rattle.http_model.specs.Requests.{Request}
 use Rattle.json_model.specs.Members.{has_exactly, id_of, slug_of, is_within}

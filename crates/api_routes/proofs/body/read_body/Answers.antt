@@ -1,4 +1,4 @@
-use Rattle.std.proofs.Common.{◌≡◌, ℕ, List, ap, sym, ◌∙◌}
+use Rattle.std.proofs.Common.{ℕ, List, ap, sym, ◌∙◌}
 use Rattle.serde_json.specs.Read.{read}
 use Rattle.wire_model.specs.Routes.{text_of_body}
 use Rattle.api_routes.proofs.CallLemmas.{bad-body, body-read}

@@ -1,4 +1,4 @@
-use Rattle.std.proofs.Common.{◌≡◌, ap, Err}
+use Rattle.std.proofs.Common.{ap, Err}
 use Rattle.wire_model.specs.Routes.{creation_asked}
 use Rattle.api_routes.proofs.CallLemmas.{fault-read}
 use Rattle.api_routes.proofs.body.read_creation.Goals as goal

@@ -1,6 +1,5 @@
-use Rattle.std.proofs.Common.{◌≡◌, ◌∙◌, ap, length, drop}
+use Rattle.std.proofs.Common.{◌∙◌, ap}
 use Rattle.wire_model.specs.Routes.{card_named}
-use Rattle.wire_model.specs.declared.words.TheConstants.{CARD_FRONT}
 use Rattle.api_routes.proofs.RouteLemmas.{card-route, rest-whole}
 use Rattle.api_routes.proofs.path.card_text.Goals as goal
 

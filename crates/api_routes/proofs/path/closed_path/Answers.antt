@@ -1,4 +1,4 @@
-use Rattle.std.proofs.Common.{◌≡◌, ◌∙◌, sym, ap, ◌++◌, List, ℕ, ◌∷◌, []}
+use Rattle.std.proofs.Common.{◌∙◌, sym, ap, ◌++◌, List, ℕ, ◌∷◌, []}
 use Rattle.api_routes.proofs.CallLemmas.{closed-already, closed-by-slash}
 use Rattle.api_routes.proofs.path.closed_path.Goals as goal
 

@@ -1,4 +1,4 @@
-use Rattle.std.proofs.Common.{◌≡◌, ◌<◌, ℕ, length, arith}
+use Rattle.std.proofs.Common.{◌<◌, length, arith}
 use Rattle.std.proofs.lemmas.Bool.Decides.{nat_tests}
 use Rattle.api_routes.proofs.CallLemmas.{last-decides}
 use Rattle.api_routes.proofs.path.ends_with_slash.Goals as goal

@@ -1,4 +1,4 @@
-use Rattle.std.proofs.Common.{rules, ◌≡◌, ◌∙◌, sym}
+use Rattle.std.proofs.Common.{◌∙◌, sym}
 use Rattle.api_routes.proofs.RouteLemmas.{refs-route, desks-route, bytes-beside}
 use Rattle.api_routes.proofs.path.route_of_bytes.Goals as goal
 

@@ -1,8 +1,7 @@
 -- Each turn goes on from what was done so far, or ends the session.
-use Rattle.std.proofs.Common.{inl, refl, arith}
+use Rattle.std.proofs.Common.{arith}
 use Rattle.std.proofs.lemmas.List.{length-drop}
 use Rattle.http_model.proofs.BoundLemmas.{part_is_short}
-use Rattle.http_wire.specs.Reading.{request_of}
 use Rattle.wire_model.specs.Exchange.{tally_of}
 use Rattle.pagetree.proofs.SoFarLemmas.{ends_at_read, ends_at_end, ends_spent, ends_closed, more_held, answered_more}
 use Rattle.pagetree.proofs.SessionLemmas.{first_so_far, is_ready, ends_as_ended, ends_stopped, ends_with_refusal}

@@ -1,4 +1,4 @@
-use Rattle.std.proofs.Common.{◌≡◌, Err, refl}
+use Rattle.std.proofs.Common.{Err, refl}
 use Rattle.http_wire.specs.Reading.{request_of}
 use Rattle.wire_model.specs.Routes.{unbuilt, nowhere}
 use Rattle.wire_model.specs.declared.call.RouteFault.TheVariants.{NotFound, NotBuilt}

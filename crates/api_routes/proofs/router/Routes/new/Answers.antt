@@ -1,4 +1,4 @@
-use Rattle.std.proofs.Common.{◌≡◌, refl}
+use Rattle.std.proofs.Common.{refl}
 use Rattle.api_routes.specs.Router.{all_routes}
 use Rattle.api_routes.proofs.router.Routes.new.Goals as goal
 

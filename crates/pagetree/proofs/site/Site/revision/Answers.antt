@@ -1,5 +1,5 @@
 -- Revisions are numbered in their order.
-use Rattle.std.proofs.Common.{◌≡◌, ◌+◌, ◌-◌, ℕ, ap, sym, ◌∙◌, arith}
+use Rattle.std.proofs.Common.{◌≡◌, ◌+◌, ◌-◌, ℕ, ap, ◌∙◌, arith}
 use Rattle.wire_model.specs.Cards.{revision_with}
 use Rattle.pagetree.proofs.RevisionLemmas.{revision_at, looked_up}
 use Rattle.pagetree.proofs.site.Site.revision.Goals as goal

@@ -25,6 +25,7 @@ no_part : route_of (codes "/api/pages/") ≡ nowhere
 unfolding route_of
 no_part = refl
 
+-- two parts
 two_parts : route_of (codes "/api/pages/2/") ≡ nowhere
 unfolding route_of
 two_parts = refl
@@ -34,6 +35,7 @@ a_command : route_of (codes "/api/checkpoint") ≡ unbuilt
 unfolding route_of
 a_command = refl
 
+-- a desk
 a_desk : route_of (codes "/api/desks/2") ≡ unbuilt
 unfolding route_of
 a_desk = refl
@@ -43,14 +45,17 @@ api_alone : route_of (codes "/api") ≡ nowhere
 unfolding route_of
 api_alone = refl
 
+-- below api
 below_api : route_of (codes "/api/x") ≡ nowhere
 unfolding route_of
 below_api = refl
 
+-- beside api
 beside_api : route_of (codes "/apix") ≡ public_page
 unfolding route_of
 beside_api = refl
 
+-- a star
 a_star : route_of (codes "*") ≡ public_page
 unfolding route_of
 a_star = refl
@@ -59,15 +64,19 @@ a_star = refl
 leading_zeros : id_written (codes "0000002") ≡ Some 2
 leading_zeros = refl
 
+-- the last id
 the_last_id : id_written (codes "1000000") ≡ Some 1000000
 the_last_id = refl
 
+-- above the last id
 above_the_last_id : id_written (codes "1000001") ≡ None
 above_the_last_id = refl
 
+-- eight digits
 eight_digits : id_written (codes "00000002") ≡ None
 eight_digits = refl
 
+-- zero is no id
 zero_is_no_id : id_written (codes "0") ≡ None
 zero_is_no_id = refl
 
@@ -75,6 +84,7 @@ zero_is_no_id = refl
 an_open_path : closed_path (codes "/home") ≡ codes "/home/"
 an_open_path = refl
 
+-- a closed path
 a_closed_path : closed_path (codes "/home/") ≡ codes "/home/"
 a_closed_path = refl
 
@@ -93,6 +103,7 @@ a_creation : creation_in (creation_object (string (codes "home")))
     ≡ Some (Create 7 (codes "home") (record { title = codes "A"; blocks = [] }))
 a_creation = refl
 
+-- no slug
 no_slug : creation_in (creation_object (string (codes "a b"))) ≡ None
 no_slug = refl
 
@@ -106,22 +117,27 @@ a_card : call_of (bare_request Get (codes "/api/pages/2")) ≡ Ok (Page 2)
 unfolding call_of route_of
 a_card = refl
 
+-- an unknown path
 an_unknown_path : call_of (bare_request Other (codes "/api/x")) ≡ Err NotFound
 unfolding call_of route_of
 an_unknown_path = refl
 
+-- not built
 not_built : call_of (bare_request Other (codes "/api/move")) ≡ Err NotBuilt
 unfolding call_of route_of
 not_built = refl
 
+-- the wrong method
 the_wrong_method : call_of (bare_request Post (codes "/api/pages/0")) ≡ Err (WrongMethod allows.Get)
 unfolding call_of route_of
 the_wrong_method = refl
 
+-- no form
 no_form : call_of (bare_request Get (codes "/api/pages/0")) ≡ Err Form
 unfolding call_of route_of
 no_form = refl
 
+-- for everybody
 for_everybody : call_of (bare_request Get (codes "/home")) ≡ Ok (Public (codes "/home/"))
 unfolding call_of route_of
 for_everybody = refl

@@ -45,6 +45,7 @@ a_taken_slug_is_told : compact_text (refusal_data (SlugTaken 2)) ≡
 unfolding digits serde_json_on_literals
 a_taken_slug_is_told = refl
 
+-- nothing new is told
 nothing_new_is_told : compact_text (refusal_data NothingNew) ≡
     codes "{\"name\":\"NothingNew\",\"refused\":15}"
 unfolding digits serde_json_on_literals
@@ -85,10 +86,12 @@ the_card_is_told = refl
 the_root_has_no_changes : has_unpublished_changes root_body None ≡ false
 the_root_has_no_changes = refl
 
+-- shown changes are public
 shown_changes_are_public :
     has_unpublished_changes (record made_body { live = true }) (Some 1) ≡ false
 shown_changes_are_public = refl
 
+-- a later revision is not public
 a_later_revision_is_not_public :
     has_unpublished_changes (record made_body { live = true }) (Some 2) ≡ true
 a_later_revision_is_not_public = refl
@@ -98,10 +101,12 @@ no_page_is_404 : (response_of (Refused (NoPage 9))).status ≡ statuses.NotFound
 unfolding response_of
 no_page_is_404 = refl
 
+-- denied is 403
 denied_is_403 : (response_of (Refused (Denied 1))).status ≡ statuses.Forbidden
 unfolding response_of
 denied_is_403 = refl
 
+-- another is 409
 another_is_409 : (response_of (Refused NothingNew)).status ≡ statuses.Conflict
 unfolding response_of
 another_is_409 = refl
@@ -116,6 +121,7 @@ too_large_is_told : (response_of (Head 413)).body ≡ codes "{\"error\":\"TooLar
 unfolding response_of serde_json_on_literals
 too_large_is_told = refl
 
+-- no head is told
 no_head_is_told : (response_of (Head 400)).body ≡ codes "{\"error\":\"Head\"}"
 unfolding response_of serde_json_on_literals
 no_head_is_told = refl

@@ -39,7 +39,7 @@ impl Held {
     pub fn new(alloc: Global) -> Result<Held, NoMemory>
         ensures { IfOk result (λ held. held ≡ []) }
     {
-        let room = vec![in alloc; 0; ROOM]?;
+        let room = empty_room(alloc)?;
         Ok(Held {
             room,
             from: 0,
@@ -83,6 +83,13 @@ impl Held {
         self.to = filled.to;
         filled.outcome
     }
+}
+
+/// The room for the bytes, all zeros.
+fn empty_room(alloc: Global) -> Result<Vec<u8>, NoMemory>
+    ensures { IfOk result (λ room. length room.items ≡ ROOM) }
+{
+    Ok(vec![in alloc; 0; ROOM]?)
 }
 
 /// Where the bytes stand in their room after a read, and what it answered.

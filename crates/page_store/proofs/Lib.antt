@@ -9,3 +9,8 @@ pub mod RootLemmas
 pub mod RangeLemmas
 pub mod WindowLemmas
 pub mod KidLemmas
+pub mod ChangeLemmas
+pub mod BodyLemmas
+pub mod SlugLemmas
+pub mod CutLemmas
+pub mod RemoveLemmas

@@ -3,3 +3,4 @@ pub mod Pages
 pub mod Kept
 pub mod Search
 pub mod KidWalk
+pub mod Changes

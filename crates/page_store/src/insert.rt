@@ -118,7 +118,7 @@ fn add_kid(stored: &mut IndexMap<PageId, StoredRow>, parent: PageId)
 }
 
 /// Puts a pair into a map that has room for it.
-fn put<K: Eq + Hash + Drop, V: Drop>(map: &mut IndexMap<K, V>, key: K, value: V)
+pub(crate) fn put<K: Eq + Hash + Drop, V: Drop>(map: &mut IndexMap<K, V>, key: K, value: V)
     requires { 0 < spare map.old }
     ensures updates { Updates K.eq map.old map.new key (Some value) }
     ensures spare { spare map.old ≤ spare map.new + 1 }

@@ -1,10 +1,12 @@
 //! The rows of all pages in path order, after django-treebeard's `MP_Node` table.
 #![tactic(auto)]
 
+mod change;
 mod insert;
 mod kids;
 mod look_up;
 mod range;
+mod remove;
 mod root;
 mod rows;
 mod search;

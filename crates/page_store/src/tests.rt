@@ -44,3 +44,16 @@ fn a_new_tree_is_its_root(rt: HostRuntime) -> Result<(), Fail> {
     assert_eq!(rt; all.as_slice(), [1].as_slice());
     Ok(())
 }
+
+#[test]
+fn the_root_gets_fields(rt: HostRuntime) -> Result<(), Fail> {
+    let mut rows = Rows::root(rt.alloc())?;
+    let mut body = rows.row(PageId::root()).ok_or("no root")?.body;
+    assert_eq!(rt; body.expired, false);
+    body.expired = true;
+    rows.set_body(PageId::root(), body);
+    let root = rows.row(PageId::root()).ok_or("no root")?;
+    assert_eq!(rt; root.body.expired, true);
+    assert_eq!(rt; root.numchild, 0);
+    Ok(())
+}

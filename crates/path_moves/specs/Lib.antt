@@ -1,0 +1,4 @@
+pub mod Append
+pub mod Subtree
+pub mod Cuts
+pub mod Laws

@@ -1,0 +1,22 @@
+//! What cuts and grafts are on rows. Each is a function that does nothing: its contract is the law.
+ghost use Rattle.path_moves.specs.Laws.{CutTakesRowsOut, GraftPutsRowsIn, RowsAreRelabelled, MoveRelabelsRows};
+
+/// A cut takes out the rows that begin with the page's path, and lowers its parent's child count.
+pub fn cut_takes_rows_out()
+    ensures { CutTakesRowsOut }
+{}
+
+/// A graft behind the kids of any page puts the rows in behind those of that page and of all below.
+pub fn graft_puts_rows_in()
+    ensures { GraftPutsRowsIn }
+{}
+
+/// The rows of a page and of all below it, at another place, have their beginnings replaced.
+pub fn rows_are_relabelled()
+    ensures { RowsAreRelabelled }
+{}
+
+/// A move behind the last kid of a page takes the rows out and puts them in with other beginnings.
+pub fn move_relabels_rows()
+    ensures { MoveRelabelsRows }
+{}

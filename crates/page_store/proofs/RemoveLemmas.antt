@@ -152,8 +152,11 @@ module _ (pages : List Page) (are : ArePages pages) (id p : ℕ) (row : Page)
   root_stays [] root = absurd root
   root_stays (top ∷ rows) root =
       let stays : begins row.path top.path ≡ false = rw root.0.path_is (not_root row.path long) in
-      rw stays (root.0, All-stay out (λ later. IsSome later.parent) rows (All-weaker (λ later. IsSome
-      later.parent) (λ later. out later ≡ false → IsSome later.parent) (λ r h e. h) rows root.1))
+      rw stays (
+        root.0,
+        All-stay out (λ later. IsSome later.parent) rows (All-weaker (λ later. IsSome
+            later.parent) (λ later. out later ≡ false → IsSome later.parent) (λ r h e. h) rows root.1),
+      )
 
   -- also with one child less
   root_changed : (rows : List Page) → StartsAtRoot rows → StartsAtRoot (changed p without_kid rows)

@@ -57,11 +57,7 @@ fn take_keys(
 }
 
 /// Takes the key of a page out, where it has one.
-fn take_key(
-    kids: &mut IndexMap<KidKey, PageId>,
-    stored: &IndexMap<PageId, StoredRow>,
-    id: PageId,
-)
+fn take_key(kids: &mut IndexMap<KidKey, PageId>, stored: &IndexMap<PageId, StoredRow>, id: PageId)
     ensures keys { (key : KidKey) → lookup (key_eq key) kids.new.entries
         ≡ (if is_key_of key (lookup (nat_eq id) stored.now.entries) then None
         else lookup (key_eq key) kids.old.entries) }

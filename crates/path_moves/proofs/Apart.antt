@@ -113,31 +113,36 @@ module _ {Body : Type 0} where
   -- pages that are apart from others, told from the other side
   pub AllIds-turned : (f g : Forest Body) → AllIds (λ j. Lacks j f) g → AllIds (λ j. Lacks j g) f
   AllIds-turned bare g all = tt
-  AllIds-turned (grown k s slug body kids rest) g all =
-      (AllIds-weaker (λ j. Lacks j (grown k s slug body kids rest)) (λ j. j ≡ k → ⊥) g
-      (λ j lacks e. lacks.0 (sym e)) all,
-      AllIds-turned kids g (AllIds-weaker (λ j. Lacks j (grown k s slug body kids rest)) (λ j. Lacks j kids) g
-      (λ j lacks. lacks.1) all),
-      AllIds-turned rest g (AllIds-weaker (λ j. Lacks j (grown k s slug body kids rest)) (λ j. Lacks j rest) g
-      (λ j lacks. lacks.2) all))
+  AllIds-turned (grown k s slug body kids rest) g all = (
+    AllIds-weaker (λ j. Lacks j (grown k s slug body kids rest)) (λ j. j ≡ k → ⊥) g
+        (λ j lacks e. lacks.0 (sym e)) all,
+    AllIds-turned kids g (AllIds-weaker (λ j. Lacks j (grown k s slug body kids rest)) (λ j. Lacks j kids) g
+        (λ j lacks. lacks.1) all),
+    AllIds-turned rest g (AllIds-weaker (λ j. Lacks j (grown k s slug body kids rest)) (λ j. Lacks j rest) g
+        (λ j lacks. lacks.2) all),
+  )
 
   -- what holds of the parent and of each page holds of each row's parent
   pub rows_parents : (P : Option ℕ → Type 0) (parent : Option ℕ) (path url : List ℕ) (f : Forest Body) →
       P parent → AllIds (λ j. P (Some j)) f →
       AllByRecursion (λ (row : Row Body). P row.parent) (rows_below parent path url f)
   rows_parents P parent path url bare one all = tt
-  rows_parents P parent path url (grown i s slug body kids rest) one all =
-      (one, All-append _ _ _
-      (rows_parents P (Some i) (path ++ s ∷ []) (child_url url slug) kids all.0 all.1)
-      (rows_parents P parent path url rest one all.2))
+  rows_parents P parent path url (grown i s slug body kids rest) one all = (
+    one,
+    All-append _ _ _
+        (rows_parents P (Some i) (path ++ s ∷ []) (child_url url slug) kids all.0 all.1)
+        (rows_parents P parent path url rest one all.2),
+  )
 
   -- what holds of each page's id holds of each row's
   pub rows_ids : (P : ℕ → Type 0) (parent : Option ℕ) (path url : List ℕ) (f : Forest Body) →
       AllIds P f → AllByRecursion (λ (row : Row Body). P row.id) (rows_below parent path url f)
   rows_ids P parent path url bare all = tt
-  rows_ids P parent path url (grown i s slug body kids rest) all =
-      (all.0, All-append _ _ _ (rows_ids P (Some i) (path ++ s ∷ []) (child_url url slug) kids all.1)
-      (rows_ids P parent path url rest all.2))
+  rows_ids P parent path url (grown i s slug body kids rest) all = (
+    all.0,
+    All-append _ _ _ (rows_ids P (Some i) (path ++ s ∷ []) (child_url url slug) kids all.1)
+        (rows_ids P parent path url rest all.2),
+  )
 
   -- what holds of each page holds of each that is left after a cut
   pub AllIds-without : (P : ℕ → Type 0) (id : ℕ) (f : Forest Body) → AllIds P f → AllIds P (without id f)
@@ -154,13 +159,17 @@ module _ {Body : Type 0} where
   pub AreApart-without : (id : ℕ) (f : Forest Body) → AreApart f → AreApart (without id f)
   AreApart-without id bare apart = tt
   AreApart-without id (grown i s slug body kids rest) apart =
-      either (nat_eq i id) apart.2
-      ((AllIds-without (λ j. j ≡ i → ⊥) id kids apart.0.0,
-      AllIds-without (λ j. j ≡ i → ⊥) id rest apart.0.1,
-      AllIds-weaker (λ j. Lacks j kids) (λ j. Lacks j (without id kids)) (without id rest)
-      (λ j lacks. AllIds-without (λ k. k ≡ j → ⊥) id kids lacks)
-      (AllIds-without (λ j. Lacks j kids) id rest apart.0.2)),
-      AreApart-without id kids apart.1, AreApart-without id rest apart.2)
+      either (nat_eq i id) apart.2 (
+        (
+          AllIds-without (λ j. j ≡ i → ⊥) id kids apart.0.0,
+          AllIds-without (λ j. j ≡ i → ⊥) id rest apart.0.1,
+          AllIds-weaker (λ j. Lacks j kids) (λ j. Lacks j (without id kids)) (without id rest)
+              (λ j lacks. AllIds-without (λ k. k ≡ j → ⊥) id kids lacks)
+              (AllIds-without (λ j. Lacks j kids) id rest apart.0.2),
+        ),
+        AreApart-without id kids apart.1,
+        AreApart-without id rest apart.2,
+      )
     where
       either : (t : Bool) → AreApart rest → AreApart (grown i s slug body (without id kids) (without id rest)) →
           AreApart (cond t rest (grown i s slug body (without id kids) (without id rest)))
@@ -196,8 +205,12 @@ module _ {Body : Type 0} where
       let sides = All-parts (λ j. j ≡ i → ⊥) (ids_of kids) (ids_of rest) others in
       let parts = distinct_parts (ids_of kids) (ids_of rest) distinct.1 in
       let between = All-weaker (λ j. AllByRecursion (λ k. k ≡ j → ⊥) (ids_of kids)) (λ j. Lacks j kids)
-          (λ j all. AllIds-ids_of (λ k. k ≡ j → ⊥) kids all) (ids_of rest) parts.apart in
-      ((AllIds-ids_of (λ j. j ≡ i → ⊥) kids sides.0, AllIds-ids_of (λ j. j ≡ i → ⊥) rest sides.1,
-      AllIds-ids_of (λ j. Lacks j kids) rest between),
-      AreApart-distinct kids parts.front,
-      AreApart-distinct rest parts.back)
+      (λ j all. AllIds-ids_of (λ k. k ≡ j → ⊥) kids all) (ids_of rest) parts.apart in (
+        (
+          AllIds-ids_of (λ j. j ≡ i → ⊥) kids sides.0,
+          AllIds-ids_of (λ j. j ≡ i → ⊥) rest sides.1,
+          AllIds-ids_of (λ j. Lacks j kids) rest between,
+        ),
+        AreApart-distinct kids parts.front,
+        AreApart-distinct rest parts.back,
+      )

@@ -71,9 +71,9 @@ module _ {Body : Type 0} where
       P parent → AllIds (λ j. P (Some j)) f → (b : Block id before parent path url f) → P b.top.parent
   top_parent P id before parent path url f one all b =
       let rows = subst (λ rows. AllByRecursion (λ (row : Row Body). P row.parent) rows) b.rows_are
-          (rows_parents P parent path url f one all) in
+      (rows_parents P parent path url f one all) in
       let parts = All-parts (λ (row : Row Body). P row.parent) b.front
-          (b.top ∷ (rows_below (Some id) b.top.path b.top.url (kids_of id f) ++ b.behind)) rows in
+      (b.top ∷ (rows_below (Some id) b.top.path b.top.url (kids_of id f) ++ b.behind)) rows in
       parts.1.0
 
   -- no count falls where the parent is not among these
@@ -182,8 +182,8 @@ module _ {Body : Type 0} where
     below_kids_left other lacks b j lacks_j =
         let differs : nat_eq i id ≡ false = grind (arith, nat_tests) in
         let deeper : is_parent j b.top.parent ≡ false =
-            top_parent (λ q. is_parent j q ≡ false) id 0 (Some i) (path ++ s ∷ []) (child_url url slug) kids
-            (not_same i j lacks_j.0) (AllIds-weaker _ (λ k. nat_eq k j ≡ false) kids (λ k. not_same k j) lacks_j.1) b in
+        top_parent (λ q. is_parent j q ≡ false) id 0 (Some i) (path ++ s ∷ []) (child_url url slug) kids
+        (not_same i j lacks_j.0) (AllIds-weaker _ (λ k. nat_eq k j ≡ false) kids (λ k. not_same k j) lacks_j.1) b in
         rw (differs, without-lacks id rest lacks, deeper) (omega arith)
 
     -- the rows that are left where a page further down is cut out
@@ -194,25 +194,25 @@ module _ {Body : Type 0} where
     below_cut_is apart other lacks b =
         let differs : nat_eq i id ≡ false = grind (arith, nat_tests) in
         let inner = b.cut_is (AllIds-weaker (λ j. j ≡ i → ⊥) (λ j. Some i ≡ Some j → ⊥) kids
-            (λ j apart_j e. apart_j (let same : i ≡ j = cc in sym same)) apart.0.0) in
+        (λ j apart_j e. apart_j (let same : i ≡ j = cc in sym same)) apart.0.0) in
         let count = b.kids_left i refl apart.0.0 in
         let first = lowered_head head b.top.parent (kid_count (without id kids)) count in
         let others : AllByRecursion (λ (row : Row Body). is_parent row.id b.top.parent ≡ false) after =
-            top_parent (λ q. AllByRecursion (λ (row : Row Body). is_parent row.id q ≡ false) after)
-            id 0 (Some i) (path ++ s ∷ []) (child_url url slug) kids
-            (rows_ids (λ k. nat_eq i k ≡ false) parent path url rest
-            (AllIds-weaker _ (λ k. nat_eq i k ≡ false) rest (λ k apart_k. not_same i k (λ e. apart_k (sym e))) apart.0.1))
-            (AllIds-weaker (λ j. Lacks j rest) (λ j. AllByRecursion (λ (row : Row Body). nat_eq j row.id ≡ false) after) kids
-            (λ j lacks_j. rows_ids (λ k. nat_eq j k ≡ false) parent path url rest
-            (AllIds-weaker _ (λ k. nat_eq j k ≡ false) rest (λ k apart_k. not_same j k (λ e. apart_k (sym e))) lacks_j))
-            (AllIds-turned kids rest apart.0.2)) b in
+        top_parent (λ q. AllByRecursion (λ (row : Row Body). is_parent row.id q ≡ false) after)
+        id 0 (Some i) (path ++ s ∷ []) (child_url url slug) kids
+        (rows_ids (λ k. nat_eq i k ≡ false) parent path url rest
+        (AllIds-weaker _ (λ k. nat_eq i k ≡ false) rest (λ k apart_k. not_same i k (λ e. apart_k (sym e))) apart.0.1))
+        (AllIds-weaker (λ j. Lacks j rest) (λ j. AllByRecursion (λ (row : Row Body). nat_eq j row.id ≡ false) after) kids
+        (λ j lacks_j. rows_ids (λ k. nat_eq j k ≡ false) parent path url rest
+        (AllIds-weaker _ (λ k. nat_eq j k ≡ false) rest (λ k apart_k. not_same j k (λ e. apart_k (sym e))) lacks_j))
+        (AllIds-turned kids rest apart.0.2)) b in
         let kept = lower_count-others b.top.parent after others in
         let tail : rows_below (Some i) (path ++ s ∷ []) (child_url url slug) (without id kids) ++ after
-            ≡ lower_count b.top.parent (b.front ++ (b.behind ++ after)) =
-            ap (λ xs. xs ++ after) inner
-            ∙ (ap (λ ys. lower_count b.top.parent (b.front ++ b.behind) ++ ys) (sym kept)
-            ∙ (sym (map-append (lower_row b.top.parent) (b.front ++ b.behind) after)
-            ∙ ap (lower_count b.top.parent) (append_assoc b.front b.behind after))) in
+        ≡ lower_count b.top.parent (b.front ++ (b.behind ++ after)) =
+        ap (λ xs. xs ++ after) inner
+        ∙ (ap (λ ys. lower_count b.top.parent (b.front ++ b.behind) ++ ys) (sym kept)
+        ∙ (sym (map-append (lower_row b.top.parent) (b.front ++ b.behind) after)
+        ∙ ap (lower_count b.top.parent) (append_assoc b.front b.behind after))) in
         rw (differs, without-lacks id rest lacks) (cons_both _ _ _ _ first tail)
 
     -- a block below the first page
@@ -235,9 +235,14 @@ module _ {Body : Type 0} where
           id_is = b.id_is;
           node_is = rw (differs, kids_of-lacks id rest lacks, or_else_bare (kids_of id kids)) (or_else_first _ _ _ _ _ _ _ _ b.node_is);
           count_is = b.count_is ∙ ap kid_count (sym kids_are);
-          rows_are = rw (differs, kids_of-lacks id rest lacks, or_else_bare (kids_of id kids), b.rows_are,
-              append_assoc b.front (b.top ∷ (rows_below (Some id) b.top.path b.top.url (kids_of id kids) ++ b.behind)) after,
-              append_assoc (rows_below (Some id) b.top.path b.top.url (kids_of id kids)) b.behind after) refl;
+          rows_are = rw (
+            differs,
+            kids_of-lacks id rest lacks,
+            or_else_bare (kids_of id kids),
+            b.rows_are,
+            append_assoc b.front (b.top ∷ (rows_below (Some id) b.top.path b.top.url (kids_of id kids) ++ b.behind)) after,
+            append_assoc (rows_below (Some id) b.top.path b.top.url (kids_of id kids)) b.behind after,
+          ) refl;
           front_out = (rw b.path_is (begins-longer (path ++ s ∷ []) b.more b.step), b.front_out);
           behind_out = All-append _ _ _ b.behind_out
               (All-weaker _ _ (λ (row : Row Body) on. rw path_is (earlier_out path (b.step ∷ b.more) row.path s s (last_step s rest) (omega arith) on)) _ (rows_go_on parent path url s rest rising.2));
@@ -246,11 +251,17 @@ module _ {Body : Type 0} where
           behind_ids = All-append _ _ _ b.behind_ids (rows_ids (λ j. j ≡ id → ⊥) parent path url rest lacks);
           kids_left = λ j parent_is lacks_j. below_kids_left other lacks b j lacks_j;
           cut_is = λ others. below_cut_is apart other lacks b;
-          graft_is = λ place node. rw (differs, graft-lacks id place node rest lacks, kids_of-lacks id rest lacks,
-              or_else_bare (kids_of id kids), kid_count-graft id place node kids, b.graft_is place node,
-              append_assoc b.front (with_count (kid_count (put place node (kids_of id kids))) b.top
-              ∷ (rows_below (Some id) b.top.path b.top.url (put place node (kids_of id kids)) ++ b.behind)) after,
-              append_assoc (rows_below (Some id) b.top.path b.top.url (put place node (kids_of id kids))) b.behind after) refl;
+          graft_is = λ place node. rw (
+            differs,
+            graft-lacks id place node rest lacks,
+            kids_of-lacks id rest lacks,
+            or_else_bare (kids_of id kids),
+            kid_count-graft id place node kids,
+            b.graft_is place node,
+            append_assoc b.front (with_count (kid_count (put place node (kids_of id kids))) b.top
+                ∷ (rows_below (Some id) b.top.path b.top.url (put place node (kids_of id kids)) ++ b.behind)) after,
+            append_assoc (rows_below (Some id) b.top.path b.top.url (put place node (kids_of id kids))) b.behind after,
+          ) refl;
         }
 
     -- a path that goes on by a later step than this one begins with none below it
@@ -268,23 +279,23 @@ module _ {Body : Type 0} where
         let differs : nat_eq i id ≡ false = grind (arith, nat_tests) in
         let inner = b.cut_is others.2 in
         let first : is_parent i b.top.parent ≡ false =
-            top_parent (λ q. is_parent i q ≡ false) id s parent path url rest (no_parent parent i others.0)
-            (AllIds-weaker _ (λ j. nat_eq j i ≡ false) rest (λ j. not_same j i) apart.0.1) b in
+        top_parent (λ q. is_parent i q ≡ false) id s parent path url rest (no_parent parent i others.0)
+        (AllIds-weaker _ (λ j. nat_eq j i ≡ false) rest (λ j. not_same j i) apart.0.1) b in
         let apart_below : AllByRecursion (λ (row : Row Body). is_parent row.id b.top.parent ≡ false) below =
-            top_parent (λ q. AllByRecursion (λ (row : Row Body). is_parent row.id q ≡ false) below) id s parent path url rest
-            (rows_ids (λ k. is_parent k parent ≡ false) (Some i) (path ++ s ∷ []) (child_url url slug) kids
-            (AllIds-weaker _ (λ k. is_parent k parent ≡ false) kids (no_parent parent) others.1))
-            (AllIds-weaker (λ j. Lacks j kids) (λ j. AllByRecursion (λ (row : Row Body). nat_eq j row.id ≡ false) below) rest
-            (λ j lacks_j. rows_ids (λ k. nat_eq j k ≡ false) (Some i) (path ++ s ∷ []) (child_url url slug) kids
-            (AllIds-weaker _ (λ k. nat_eq j k ≡ false) kids (λ k apart_k. not_same j k (λ e. apart_k (sym e))) lacks_j))
-            apart.0.2) b in
+        top_parent (λ q. AllByRecursion (λ (row : Row Body). is_parent row.id q ≡ false) below) id s parent path url rest
+        (rows_ids (λ k. is_parent k parent ≡ false) (Some i) (path ++ s ∷ []) (child_url url slug) kids
+        (AllIds-weaker _ (λ k. is_parent k parent ≡ false) kids (no_parent parent) others.1))
+        (AllIds-weaker (λ j. Lacks j kids) (λ j. AllByRecursion (λ (row : Row Body). nat_eq j row.id ≡ false) below) rest
+        (λ j lacks_j. rows_ids (λ k. nat_eq j k ≡ false) (Some i) (path ++ s ∷ []) (child_url url slug) kids
+        (AllIds-weaker _ (λ k. nat_eq j k ≡ false) kids (λ k apart_k. not_same j k (λ e. apart_k (sym e))) lacks_j))
+        apart.0.2) b in
         let kept = lower_count-others b.top.parent below apart_below in
         let tail : below ++ rows_below parent path url (without id rest)
-            ≡ lower_count b.top.parent ((below ++ b.front) ++ b.behind) =
-            ap (λ ys. below ++ ys) inner
-            ∙ (ap (λ xs. xs ++ lower_count b.top.parent (b.front ++ b.behind)) (sym kept)
-            ∙ (sym (map-append (lower_row b.top.parent) below (b.front ++ b.behind))
-            ∙ ap (lower_count b.top.parent) (sym (append_assoc below b.front b.behind)))) in
+        ≡ lower_count b.top.parent ((below ++ b.front) ++ b.behind) =
+        ap (λ ys. below ++ ys) inner
+        ∙ (ap (λ xs. xs ++ lower_count b.top.parent (b.front ++ b.behind)) (sym kept)
+        ∙ (sym (map-append (lower_row b.top.parent) below (b.front ++ b.behind))
+        ∙ ap (lower_count b.top.parent) (sym (append_assoc below b.front b.behind)))) in
         rw (differs, without-lacks id kids lacks, first) (cons_both _ _ _ _ refl tail)
 
     -- a block among the siblings behind the first page
@@ -308,23 +319,37 @@ module _ {Body : Type 0} where
           id_is = b.id_is;
           node_is = rw (differs, kids_of-lacks id kids lacks, node_of-lacks id kids lacks) b.node_is;
           count_is = b.count_is ∙ ap kid_count (sym kids_are);
-          rows_are = rw (differs, kids_of-lacks id kids lacks, b.rows_are,
-              append_assoc below b.front (b.top ∷ (rows_below (Some id) b.top.path b.top.url (kids_of id rest) ++ b.behind))) refl;
-          front_out = (rw b.path_is (later_out b.more (path ++ s ∷ []) b.step late [] (sym (append-nil (path ++ s ∷ [])))),
-              All-append _ _ _
-              (All-weaker _ _ (λ (row : Row Body) on. rw b.path_is (later_out b.more row.path b.step late (on.step ∷ on.more) on.is)) _
-              (rows_go_on (Some i) (path ++ s ∷ []) (child_url url slug) 0 kids rising.1))
-              b.front_out);
+          rows_are = rw (
+            differs,
+            kids_of-lacks id kids lacks,
+            b.rows_are,
+            append_assoc below b.front (b.top ∷ (rows_below (Some id) b.top.path b.top.url (kids_of id rest) ++ b.behind)),
+          ) refl;
+          front_out = (
+            rw b.path_is (later_out b.more (path ++ s ∷ []) b.step late [] (sym (append-nil (path ++ s ∷ [])))),
+            All-append _ _ _
+                (All-weaker _ _ (λ (row : Row Body) on. rw b.path_is (later_out b.more row.path b.step late (on.step ∷ on.more) on.is)) _
+                (rows_go_on (Some i) (path ++ s ∷ []) (child_url url slug) 0 kids rising.1))
+                b.front_out,
+          );
           behind_out = b.behind_out;
-          front_ids = (other, All-append _ _ _
-              (rows_ids (λ j. j ≡ id → ⊥) (Some i) (path ++ s ∷ []) (child_url url slug) kids lacks) b.front_ids);
+          front_ids = (
+            other,
+            All-append _ _ _
+                (rows_ids (λ j. j ≡ id → ⊥) (Some i) (path ++ s ∷ []) (child_url url slug) kids lacks) b.front_ids,
+          );
           inner_ids = rw (differs, kids_of-lacks id kids lacks) b.inner_ids;
           behind_ids = b.behind_ids;
           kids_left = λ j parent_is lacks_j. let more = b.kids_left j parent_is lacks_j.2 in rw differs (omega arith);
           cut_is = λ others. after_cut_is apart other lacks b others;
-          graft_is = λ place node. rw (differs, graft-lacks id place node kids lacks, kids_of-lacks id kids lacks, b.graft_is place node,
-              append_assoc below b.front (with_count (kid_count (put place node (kids_of id rest))) b.top
-              ∷ (rows_below (Some id) b.top.path b.top.url (put place node (kids_of id rest)) ++ b.behind))) refl;
+          graft_is = λ place node. rw (
+            differs,
+            graft-lacks id place node kids lacks,
+            kids_of-lacks id kids lacks,
+            b.graft_is place node,
+            append_assoc below b.front (with_count (kid_count (put place node (kids_of id rest))) b.top
+                ∷ (rows_below (Some id) b.top.path b.top.url (put place node (kids_of id rest)) ++ b.behind)),
+          ) refl;
         }
 
   -- the block of each page that is there

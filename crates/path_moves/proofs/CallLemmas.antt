@@ -35,9 +35,10 @@ row_text pages id kept text are is same = by (row_with id pages) refl is
     by (Some row) e is =
         let path = All-find (λ (r : Page). IsPath r.path) (λ (r : Page). nat_eq r.id id) pages row are.paths e in
         let one : kept ≡ page_row row = cc in
-        let text_is : text ≡ path_text row.path = same ∙ ap (λ (r : PageRow). r.path) one in
-        (rw text_is (IsPathText-path_text row.path path),
-        rw (text_is, steps_of-path_text row.path path.steps) refl)
+        let text_is : text ≡ path_text row.path = same ∙ ap (λ (r : PageRow). r.path) one in (
+          rw text_is (IsPathText-path_text row.path path),
+          rw (text_is, steps_of-path_text row.path path.steps) refl,
+        )
 
 -- the path of the last page of a range
 pub last_found : (pages : List Page) (id place n last : ℕ) (row : Page) (path : Option (List ℕ)) →
@@ -64,6 +65,7 @@ last_of_filter {X = X} test xs own x found passes =
     by ys y true false e k found more = let same : y ≡ x = cc in
         let both : test x ≡ false = ap test (sym same) ∙ k in absurd cc
     by ys y false false e k found more = more found
+
     some : (ys : List X) → find own ys ≡ Some x → 0 < length (filter test ys)
     some [] found = absurd cc
     some (y ∷ ys) found = by ys y (own y) (test y) refl refl found (some ys)
@@ -99,6 +101,7 @@ append_is pages id path last tree are found end same =
     deeper rows is are row e one (Some other) k lasts =
         let last_is : last ≡ other.path = cc in
         rw (one, last_is) (appended_is tree id row other (rw is at are) (rw is at e) (rw is at k))
+
     by : (rows : List Page) → rows ≡ rows_of tree → ArePages rows →
         Some path ≡ option_map (λ (row : Page). row.path) (row_with id rows) →
         ((row : Page) → row_with id rows ≡ Some row →
@@ -149,9 +152,12 @@ pub ids_of-rows : {B : Type 0} (parent : Option ℕ) (path url : List ℕ) (f : 
     map (λ (row : Row B). row.id) (rows_below parent path url f) ≡ ids_of f
 ids_of-rows parent path url bare = refl
 ids_of-rows {B = B} parent path url (grown i s slug body kids rest) =
-    rw (map-append (λ (row : Row B). row.id) (rows_below (Some i) (path ++ s ∷ []) (child_url url slug) kids)
-      (rows_below parent path url rest), ids_of-rows (Some i) (path ++ s ∷ []) (child_url url slug) kids,
-      ids_of-rows parent path url rest) refl
+    rw (
+      map-append (λ (row : Row B). row.id) (rows_below (Some i) (path ++ s ∷ []) (child_url url slug) kids)
+          (rows_below parent path url rest),
+      ids_of-rows (Some i) (path ++ s ∷ []) (child_url url slug) kids,
+      ids_of-rows parent path url rest,
+    ) refl
 
 -- nothing stands for a page that is not there
 pub node_of-absent : {B : Type 0} (id : ℕ) (f : Forest B) → has_page id f ≡ false → node_of id f ≡ bare
@@ -183,10 +189,16 @@ deleted_is pages id place n ids tree are there range is same =
         let b = block.0 in
         let window = range_rows pages row place n range in
         let rows : take n (drop place pages) ≡ b.top ∷ rows_below (Some id) b.top.path b.top.url (kids_of id tree) =
-            sym window ∙ (ap (subtree_rows row.path) same
-            ∙ (ap (λ (r : Page). subtree_rows r.path (rows_of tree)) block.1 ∙ block_rows id 0 None [] [] tree b)) in
-        rw (is, rows, ids_of-rows (Some id) b.top.path b.top.url (kids_of id tree), b.id_is, b.node_is,
-          append-nil (ids_of (kids_of id tree))) refl
+        sym window ∙ (ap (subtree_rows row.path) same
+        ∙ (ap (λ (r : Page). subtree_rows r.path (rows_of tree)) block.1 ∙ block_rows id 0 None [] [] tree b)) in
+        rw (
+          is,
+          rows,
+          ids_of-rows (Some id) b.top.path b.top.url (kids_of id tree),
+          b.id_is,
+          b.node_is,
+          append-nil (ids_of (kids_of id tree)),
+        ) refl
 
 -- and there are none where there is no such page
 pub none_deleted : (pages : List Page) (id : ℕ) (ids : List ℕ) (tree : Forest Body) →
@@ -198,5 +210,5 @@ none_deleted pages id ids tree absent is same =
     by true e = absurd (absent e)
     by false e =
         let there : has_page id tree ≡ false =
-            has_page-rows id None [] [] tree ∙ (ap (λ rows. is_some (row_with id rows)) (sym same) ∙ e) in
+        has_page-rows id None [] [] tree ∙ (ap (λ rows. is_some (row_with id rows)) (sym same) ∙ e) in
         rw (is, node_of-absent id tree there) refl

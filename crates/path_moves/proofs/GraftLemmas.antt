@@ -37,9 +37,11 @@ module _ {Body : Type 0} where
       ≡ rows_below parent path url f ++ rows_below parent path url (placed node (last_step before f + 1) bare)
   rows_below-put_last parent path url before node bare = refl
   rows_below-put_last parent path url before node (grown i s slug body kids rest) =
-      rw (rows_below-put_last parent path url s node rest,
+      rw (
+        rows_below-put_last parent path url s node rest,
         append_assoc (rows_below (Some i) (path ++ s ∷ []) (child_url url slug) kids) (rows_below parent path url rest)
-        (rows_below parent path url (placed node (last_step s rest + 1) bare))) refl
+            (rows_below parent path url (placed node (last_step s rest + 1) bare)),
+      ) refl
 
   -- a raised step above rows raises it in each of their paths
   pub rows_below-raised_above : (parent : Option ℕ) (path more url : List ℕ) (s : ℕ) (f : Forest Body) →
@@ -47,21 +49,28 @@ module _ {Body : Type 0} where
       ≡ map (raise_row (length path)) (rows_below parent (path ++ s ∷ more) url f)
   rows_below-raised_above parent path more url s bare = refl
   rows_below-raised_above parent path more url s (grown i t slug body kids rest) =
-      rw (append_assoc path ((s + 1) ∷ more) (t ∷ []), append_assoc path (s ∷ more) (t ∷ []),
+      rw (
+        append_assoc path ((s + 1) ∷ more) (t ∷ []),
+        append_assoc path (s ∷ more) (t ∷ []),
         rows_below-raised_above (Some i) path (more ++ t ∷ []) (child_url url slug) s kids,
         rows_below-raised_above parent path more url s rest,
         map-append (raise_row (length path)) (rows_below (Some i) (path ++ s ∷ (more ++ t ∷ [])) (child_url url slug) kids)
-        (rows_below parent (path ++ s ∷ more) url rest),
-        raised_path-append path (more ++ t ∷ []) s) refl
+            (rows_below parent (path ++ s ∷ more) url rest),
+        raised_path-append path (more ++ t ∷ []) s,
+      ) refl
 
   -- siblings each one step later: in each of their rows, and of those below, that step is one higher
   pub rows_below-raised : (parent : Option ℕ) (path url : List ℕ) (f : Forest Body) →
       rows_below parent path url (raised f) ≡ map (raise_row (length path)) (rows_below parent path url f)
   rows_below-raised parent path url bare = refl
   rows_below-raised parent path url (grown i s slug body kids rest) =
-      rw (rows_below-raised_above (Some i) path [] (child_url url slug) s kids, rows_below-raised parent path url rest,
+      rw (
+        rows_below-raised_above (Some i) path [] (child_url url slug) s kids,
+        rows_below-raised parent path url rest,
         map-append (raise_row (length path)) (rows_below (Some i) (path ++ s ∷ []) (child_url url slug) kids)
-        (rows_below parent path url rest), raised_path-append path [] s) refl
+            (rows_below parent path url rest),
+        raised_path-append path [] s,
+      ) refl
 
   -- A sibling among pages side by side: those before it, and it with those after it.
   pub record Siblings (sibling : ℕ) (f : Forest Body) : Type 0 where
@@ -103,13 +112,18 @@ module _ {Body : Type 0} where
         later = found.later;
         earlier_rows = λ parent path url. record { id = i; parent = parent; path = path ++ s ∷ []; url = child_url url slug; slug = slug; numchild = kid_count kids; body = body }
             ∷ (rows_below (Some i) (path ++ s ∷ []) (child_url url slug) kids ++ found.earlier_rows parent path url);
-        rows_are = λ parent path url. rw (found.rows_are parent path url,
-            append_assoc (rows_below (Some i) (path ++ s ∷ []) (child_url url slug) kids) (found.earlier_rows parent path url)
-            (rows_below parent path url found.later)) refl;
-        put_is = λ parent path url node. rw (e, found.put_is parent path url node,
-            append_assoc (rows_below (Some i) (path ++ s ∷ []) (child_url url slug) kids) (found.earlier_rows parent path url)
-            (rows_below parent path url (placed node found.step bare)
-            ++ map (raise_row (length path)) (rows_below parent path url found.later))) refl;
+        rows_are = λ parent path url. rw (
+          found.rows_are parent path url,
+          append_assoc (rows_below (Some i) (path ++ s ∷ []) (child_url url slug) kids) (found.earlier_rows parent path url)
+              (rows_below parent path url found.later),
+        ) refl;
+        put_is = λ parent path url node. rw (
+          e,
+          found.put_is parent path url node,
+          append_assoc (rows_below (Some i) (path ++ s ∷ []) (child_url url slug) kids) (found.earlier_rows parent path url)
+              (rows_below parent path url (placed node found.step bare)
+              ++ map (raise_row (length path)) (rows_below parent path url found.later)),
+        ) refl;
       }
 
   -- rows below a page whose path and URL have another beginning: each has that beginning replaced
@@ -118,12 +132,16 @@ module _ {Body : Type 0} where
       ≡ map (relabel_row old new old_url new_url) (rows_below parent (old ++ more) (old_url ++ text) f)
   rows_below-relabelled parent old new more old_url new_url text bare = refl
   rows_below-relabelled parent old new more old_url new_url text (grown i s slug body kids rest) =
-      rw (append_assoc new more (s ∷ []), append_assoc old more (s ∷ []),
-        child_url-append new_url text slug, child_url-append old_url text slug,
+      rw (
+        append_assoc new more (s ∷ []),
+        append_assoc old more (s ∷ []),
+        child_url-append new_url text slug,
+        child_url-append old_url text slug,
         rows_below-relabelled (Some i) old new (more ++ s ∷ []) old_url new_url ((text ++ slug) ++ SLASH ∷ []) kids,
         rows_below-relabelled parent old new more old_url new_url text rest,
         map-append (relabel_row old new old_url new_url)
-        (rows_below (Some i) (old ++ (more ++ s ∷ [])) (old_url ++ ((text ++ slug) ++ SLASH ∷ [])) kids)
-        (rows_below parent (old ++ more) (old_url ++ text) rest),
+            (rows_below (Some i) (old ++ (more ++ s ∷ [])) (old_url ++ ((text ++ slug) ++ SLASH ∷ [])) kids)
+            (rows_below parent (old ++ more) (old_url ++ text) rest),
         relabelled-append old new (more ++ s ∷ []),
-        relabelled-append old_url new_url ((text ++ slug) ++ SLASH ∷ [])) refl
+        relabelled-append old_url new_url ((text ++ slug) ++ SLASH ∷ []),
+      ) refl

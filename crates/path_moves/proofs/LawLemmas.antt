@@ -66,16 +66,16 @@ put_behind-parts : (path : List ℕ) (new front : List Page) (y : Page) (ys behi
 put_behind-parts path new front y ys behind out inside rest =
     let test : Page → Bool = λ row. begins path row.path in
     let outside = All-weaker (λ (row : Page). begins path row.path ≡ false) (λ (row : Page). not (begins path row.path) ≡ true)
-        (λ row e. ap not e) front out in
+    (λ row e. ap not e) front out in
     let start = leading-front (λ (row : Page). not (begins path row.path)) front y (ys ++ behind) outside (ap not inside.0) in
     let middle = filter_middle (λ (row : Page). begins path row.path) front (y ∷ ys) behind out inside rest in
     let end : end_of path (front ++ (y ∷ (ys ++ behind))) ≡ length (front ++ (y ∷ ys)) =
-        rw (start, middle) (sym (length-append front (y ∷ ys))) in
+    rw (start, middle) (sym (length-append front (y ∷ ys))) in
     let whole : front ++ (y ∷ (ys ++ behind)) ≡ (front ++ (y ∷ ys)) ++ behind = sym (append_assoc front (y ∷ ys) behind) in
     let taken : take (length (front ++ (y ∷ ys))) (front ++ (y ∷ (ys ++ behind))) ≡ front ++ (y ∷ ys) =
-        ap (take (length (front ++ (y ∷ ys)))) whole ∙ take-append_seam (front ++ (y ∷ ys)) behind in
+    ap (take (length (front ++ (y ∷ ys)))) whole ∙ take-append_seam (front ++ (y ∷ ys)) behind in
     let left : drop (length (front ++ (y ∷ ys))) (front ++ (y ∷ (ys ++ behind))) ≡ behind =
-        ap (drop (length (front ++ (y ∷ ys)))) whole ∙ drop-append_seam (front ++ (y ∷ ys)) behind in
+    ap (drop (length (front ++ (y ∷ ys)))) whole ∙ drop-append_seam (front ++ (y ∷ ys)) behind in
     rw (end, taken, left) (append_assoc front (y ∷ ys) (new ++ behind))
 
 -- the block of a page that has a row, in a tree whose ids are apart
@@ -86,9 +86,9 @@ block_in tree id top rising apart found =
     let b = block_of id 0 None [] [] tree rising apart there in
     let passes : nat_eq b.top.id id ≡ true = (let same = b.id_is in grind (arith, nat_tests)) in
     let one = ap (row_with id) b.rows_are
-        ∙ find-skip (λ (row : Page). nat_eq row.id id) b.front b.top _
-        (All-weaker (λ (row : Page). row.id ≡ id → ⊥) (λ (row : Page). nat_eq row.id id ≡ false)
-        (λ row other. other_id id row.id other) b.front b.front_ids) passes in
+    ∙ find-skip (λ (row : Page). nat_eq row.id id) b.front b.top _
+    (All-weaker (λ (row : Page). row.id ≡ id → ⊥) (λ (row : Page). nat_eq row.id id ≡ false)
+    (λ row other. other_id id row.id other) b.front b.front_ids) passes in
     (b, (let both : Some top ≡ Some b.top = sym found ∙ one in cc))
 
 -- the rows outside a block
@@ -97,17 +97,22 @@ block_others : (tree : Forest Body) (id : ℕ) (b : Block id 0 None [] [] tree) 
 block_others tree id b =
     let test : Page → Bool = λ row. not (begins b.top.path row.path) in
     let inner = rows_below (Some id) b.top.path b.top.url (kids_of id tree) in
-    let inside : AllByRecursion (λ (row : Page). not (begins b.top.path row.path) ≡ false) (b.top ∷ inner) =
-        (ap not (begins-self b.top.path), All-weaker _ (λ (row : Page). not (begins b.top.path row.path) ≡ false)
-        (λ (row : Page) on. ap not (begins-BeginsWith b.top.path row.path on)) _
-        (rows_begin (Some id) b.top.path b.top.url (kids_of id tree))) in
+    let inside : AllByRecursion (λ (row : Page). not (begins b.top.path row.path) ≡ false) (b.top ∷ inner) = (
+      ap not (begins-self b.top.path),
+      All-weaker _ (λ (row : Page). not (begins b.top.path row.path) ≡ false)
+          (λ (row : Page) on. ap not (begins-BeginsWith b.top.path row.path on)) _
+          (rows_begin (Some id) b.top.path b.top.url (kids_of id tree)),
+    ) in
     let out = All-weaker (λ (row : Page). begins b.top.path row.path ≡ false) (λ (row : Page). not (begins b.top.path row.path) ≡ true)
-        (λ row e. ap not e) in
-    rw (b.rows_are, filter-append (λ (row : Page). not (begins b.top.path row.path)) b.front (b.top ∷ (inner ++ b.behind)),
+    (λ row e. ap not e) in
+    rw (
+      b.rows_are,
+      filter-append (λ (row : Page). not (begins b.top.path row.path)) b.front (b.top ∷ (inner ++ b.behind)),
       filter-append (λ (row : Page). not (begins b.top.path row.path)) (b.top ∷ inner) b.behind,
       filter_none (λ (row : Page). not (begins b.top.path row.path)) (b.top ∷ inner) inside,
       filter_all (λ (row : Page). not (begins b.top.path row.path)) b.front (out b.front b.front_out),
-      filter_all (λ (row : Page). not (begins b.top.path row.path)) b.behind (out b.behind b.behind_out)) refl
+      filter_all (λ (row : Page). not (begins b.top.path row.path)) b.behind (out b.behind b.behind_out),
+    ) refl
 
 -- no page is the parent of the root
 rootless : (f : Forest Body) → AllIds (λ j. None ≡ Some j → ⊥) f
@@ -136,22 +141,31 @@ graft_of parent id step slug body kids tree top rising apart found =
     let node = grown id step slug body kids bare in
     let inner = rows_below (Some parent) b.top.path b.top.url (kids_of parent tree) in
     let new = rows_below (Some parent) b.top.path b.top.url (placed node (last_step 0 (kids_of parent tree) + 1) bare) in
-    let inside : AllByRecursion (λ (row : Page). begins b.top.path row.path ≡ true) (with_kid b.top ∷ inner) =
-        (begins-self b.top.path, All-weaker _ (λ (row : Page). begins b.top.path row.path ≡ true)
-        (λ (row : Page) on. begins-BeginsWith b.top.path row.path on) _
-        (rows_begin (Some parent) b.top.path b.top.url (kids_of parent tree))) in
+    let inside : AllByRecursion (λ (row : Page). begins b.top.path row.path ≡ true) (with_kid b.top ∷ inner) = (
+      begins-self b.top.path,
+      All-weaker _ (λ (row : Page). begins b.top.path row.path ≡ true)
+          (λ (row : Page) on. begins-BeginsWith b.top.path row.path on) _
+          (rows_begin (Some parent) b.top.path b.top.url (kids_of parent tree)),
+    ) in
     let own : nat_eq parent b.top.id ≡ true = (let same = b.id_is in grind (arith, nat_tests)) in
     let raised : raise_count (Some parent) (rows_of tree) ≡ b.front ++ (with_kid b.top ∷ (inner ++ b.behind)) =
-        rw (b.rows_are, map-append (λ (row : Page). cond (is_parent row.id (Some parent)) (with_kid row) row) b.front (b.top ∷ (inner ++ b.behind)),
-          own, raise-others parent b.front b.front_ids,
-          raise-others parent (inner ++ b.behind) (All-append _ _ _ b.inner_ids b.behind_ids)) refl in
+    rw (
+      b.rows_are,
+      map-append (λ (row : Page). cond (is_parent row.id (Some parent)) (with_kid row) row) b.front (b.top ∷ (inner ++ b.behind)),
+      own,
+      raise-others parent b.front b.front_ids,
+      raise-others parent (inner ++ b.behind) (All-append _ _ _ b.inner_ids b.behind_ids),
+    ) refl in
     let count : with_count (kid_count (put_last 0 node (kids_of parent tree))) b.top ≡ with_kid b.top =
-        ap (λ n. with_count n b.top) (kid_count-put_last 0 id step slug body kids (kids_of parent tree) ∙ ap (λ n. n + 1) (sym b.count_is)) in
+    ap (λ n. with_count n b.top) (kid_count-put_last 0 id step slug body kids (kids_of parent tree) ∙ ap (λ n. n + 1) (sym b.count_is)) in
     rw (block.1, raised) (
-      b.graft_is End node
-      ∙ (rw (count, rows_below-put_last (Some parent) b.top.path b.top.url 0 node (kids_of parent tree),
-          append_assoc inner new b.behind) refl
-      ∙ sym (put_behind-parts b.top.path new b.front (with_kid b.top) inner b.behind b.front_out inside b.behind_out)))
+    b.graft_is End node
+    ∙ (rw (
+      count,
+      rows_below-put_last (Some parent) b.top.path b.top.url 0 node (kids_of parent tree),
+      append_assoc inner new b.behind,
+    ) refl
+    ∙ sym (put_behind-parts b.top.path new b.front (with_kid b.top) inner b.behind b.front_out inside b.behind_out)))
 
 -- the rows of a page at another place
 pub relabelled_is : (id parent at : ℕ) (path url : List ℕ) (tree : Forest Body) (top : Page) → IsTree tree →
@@ -166,8 +180,8 @@ relabelled_is id parent at path url tree top is found =
     let new_url = child_url url b.top.slug in
     let old = rows_below (Some id) b.top.path b.top.url kids in
     let moved_below : rows_below (Some id) new_path new_url kids ≡ map (relabel_row b.top.path new_path b.top.url new_url) old =
-        rw (append-nil new_path, append-nil new_url, append-nil b.top.path, append-nil b.top.url)
-        at (rows_below-relabelled (Some id) b.top.path new_path [] b.top.url new_url [] kids) in
+    rw (append-nil new_path, append-nil new_url, append-nil b.top.path, append-nil b.top.url)
+    at (rows_below-relabelled (Some id) b.top.path new_path [] b.top.url new_url [] kids) in
     rw (block.1, block_rows id 0 None [] [] tree b, b.node_is, append-nil (rows_below (Some id) new_path new_url kids), moved_below, b.id_is, b.count_is) refl
 
 -- a cut, in a tree of pages
@@ -202,7 +216,7 @@ move_is id parent tree top above is found left =
     let cut = cut_is id tree top is found in
     let rising = AreRising-without id 0 tree is.rising in
     let grafted = graft_of parent id b.own_step b.top.slug b.top.body (kids_of id tree) (without id tree) above rising
-        (AreApart-without id tree apart) (ap (row_with parent) cut ∙ left) in
+    (AreApart-without id tree apart) (ap (row_with parent) cut ∙ left) in
     let labels = relabelled_is id parent (step_needed End (kids_of parent (without id tree))) above.path above.url tree top is found in
     ap (λ node. rows_of (graft parent End node (without id tree))) b.node_is
     ∙ (grafted ∙ rw (← cut, ← labels, b.node_is) refl)

@@ -18,10 +18,11 @@ All-parts P (x ∷ xs) ys all = let more = All-parts P xs ys all.1 in ((all.0, m
 pub All-turned : {X Y : Type 0} (R : X → Y → Type 0) (xs : List X) (ys : List Y) →
     AllByRecursion (λ x. AllByRecursion (R x) ys) xs → AllByRecursion (λ y. AllByRecursion (λ x. R x y) xs) ys
 All-turned R xs [] all = tt
-All-turned R xs (y ∷ ys) all =
-    (All-weaker (λ x. AllByRecursion (R x) (y ∷ ys)) (λ x. R x y) (λ x both. both.0) xs all,
-    All-turned R xs ys (All-weaker (λ x. AllByRecursion (R x) (y ∷ ys)) (λ x. AllByRecursion (R x) ys)
-    (λ x both. both.1) xs all))
+All-turned R xs (y ∷ ys) all = (
+  All-weaker (λ x. AllByRecursion (R x) (y ∷ ys)) (λ x. R x y) (λ x both. both.0) xs all,
+  All-turned R xs ys (All-weaker (λ x. AllByRecursion (R x) (y ∷ ys)) (λ x. AllByRecursion (R x) ys)
+      (λ x both. both.1) xs all),
+)
 
 -- pairs of two lists: those of either, and those across
 pub EachPair-parts : (R : Page → Page → Type 0) (xs ys : List Page) → EachPair R (xs ++ ys) →
@@ -49,8 +50,13 @@ pub filter_middle : {X : Type 0} (test : X → Bool) (front middle behind : List
     AllByRecursion (λ x. test x ≡ false) front → AllByRecursion (λ x. test x ≡ true) middle →
     AllByRecursion (λ x. test x ≡ false) behind → filter test (front ++ (middle ++ behind)) ≡ middle
 filter_middle test front middle behind none all rest =
-    rw (filter-append test front (middle ++ behind), filter-append test middle behind,
-      filter_none test front none, filter_all test middle all, filter_none test behind rest) (append-nil middle)
+    rw (
+      filter-append test front (middle ++ behind),
+      filter-append test middle behind,
+      filter_none test front none,
+      filter_all test middle all,
+      filter_none test behind rest,
+    ) (append-nil middle)
 
 -- where those in a window pass and no others, it keeps the window
 pub filter_window : {X : Type 0} (test : X → Bool) (xs : List X) (place n : ℕ) →

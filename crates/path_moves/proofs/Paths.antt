@@ -74,11 +74,12 @@ module _ {Body : Type 0} where
       let late = rising.0 in
       let last = le-last_step s rest rising.2 in
       let below = rows_go_on (Some i) (path ++ s ∷ []) (child_url url slug) 0 kids rising.1 in
-      let after = rows_go_on parent path url s rest rising.2 in
-      (record { step = s; more = []; is = refl; late = rising.0; early = last },
-      All-append _ _ _
-      (All-weaker _ _ (λ (row : Row Body) on.
-      GoesOn-below path row.path s before (last_step s rest) 0 (last_step 0 kids) late last on) _ below)
-      (All-weaker _ _ (λ (row : Row Body) on.
-      GoesOn-wider path s before (last_step s rest) (last_step s rest) row.path (omega arith) (omega arith) on)
-      _ after))
+      let after = rows_go_on parent path url s rest rising.2 in (
+        record { step = s; more = []; is = refl; late = rising.0; early = last },
+        All-append _ _ _
+            (All-weaker _ _ (λ (row : Row Body) on.
+            GoesOn-below path row.path s before (last_step s rest) 0 (last_step 0 kids) late last on) _ below)
+            (All-weaker _ _ (λ (row : Row Body) on.
+            GoesOn-wider path s before (last_step s rest) (last_step s rest) row.path (omega arith) (omega arith) on)
+            _ after),
+      )

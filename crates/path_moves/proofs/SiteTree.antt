@@ -24,9 +24,11 @@ pub AllIds-rows : {Body : Type 0} (P : ℕ → Type 0) (parent : Option ℕ) (pa
     AllByRecursion (λ (row : Row Body). P row.id) (rows_below parent path url f) → AllIds P f
 AllIds-rows P parent path url bare all = tt
 AllIds-rows P parent path url (grown i s slug body kids rest) all =
-    let parts = All-parts _ _ _ all.1 in
-    (all.0, AllIds-rows P (Some i) (path ++ s ∷ []) (child_url url slug) kids parts.0,
-    AllIds-rows P parent path url rest parts.1)
+    let parts = All-parts _ _ _ all.1 in (
+      all.0,
+      AllIds-rows P (Some i) (path ++ s ∷ []) (child_url url slug) kids parts.0,
+      AllIds-rows P parent path url rest parts.1,
+    )
 
 -- ids that stand on different rows are apart
 pub apart_from_rows : (parent : Option ℕ) (path url : List ℕ) (f : Forest Body) →
@@ -39,12 +41,15 @@ apart_from_rows parent path url (grown i s slug body kids rest) others =
     let between = All-weaker _ (λ (row : Page). Lacks row.id kids)
     (λ (row : Page) all. AllIds-rows (λ k. k ≡ row.id → ⊥) (Some i) (path ++ s ∷ []) (child_url url slug) kids
     (All-weaker (λ (other : Page). HasOtherId other row) (λ (other : Page). other.id ≡ row.id → ⊥)
-    (λ (other : Page) apart e. apart (sym e)) _ all)) _ turned in
-    ((AllIds-rows (λ j. j ≡ i → ⊥) (Some i) (path ++ s ∷ []) (child_url url slug) kids heads.0,
-    AllIds-rows (λ j. j ≡ i → ⊥) parent path url rest heads.1,
-    AllIds-rows (λ j. Lacks j kids) parent path url rest between),
-    apart_from_rows (Some i) (path ++ s ∷ []) (child_url url slug) kids parts.0,
-    apart_from_rows parent path url rest parts.1)
+    (λ (other : Page) apart e. apart (sym e)) _ all)) _ turned in (
+      (
+        AllIds-rows (λ j. j ≡ i → ⊥) (Some i) (path ++ s ∷ []) (child_url url slug) kids heads.0,
+        AllIds-rows (λ j. j ≡ i → ⊥) parent path url rest heads.1,
+        AllIds-rows (λ j. Lacks j kids) parent path url rest between,
+      ),
+      apart_from_rows (Some i) (path ++ s ∷ []) (child_url url slug) kids parts.0,
+      apart_from_rows parent path url rest parts.1,
+    )
 
 -- the first kid's step is a step
 kids_start : (parent : Option ℕ) (path url : List ℕ) (f : Forest Body) →
@@ -77,11 +82,12 @@ rising_from_rows parent path url before (grown i s slug body kids rest) order pa
     let heads = All-parts _ _ _ order.0 in
     let parts = EachPair-parts IsBefore _ _ order.1 in
     let both = All-parts _ _ _ paths.1 in
-    let head : Page = record { id = i; parent = parent; path = path ++ s ∷ []; url = child_url url slug; slug = slug; numchild = kid_count kids; body = body } in
-    (start,
-    rising_from_rows (Some i) (path ++ s ∷ []) (child_url url slug) 0 kids parts.0 both.0
-    (kids_start (Some i) (path ++ s ∷ []) (child_url url slug) kids both.0),
-    rising_from_rows parent path url s rest parts.1 both.1 (next_start head parent path url s rest refl heads.1))
+    let head : Page = record { id = i; parent = parent; path = path ++ s ∷ []; url = child_url url slug; slug = slug; numchild = kid_count kids; body = body } in (
+      start,
+      rising_from_rows (Some i) (path ++ s ∷ []) (child_url url slug) 0 kids parts.0 both.0
+          (kids_start (Some i) (path ++ s ∷ []) (child_url url slug) kids both.0),
+      rising_from_rows parent path url s rest parts.1 both.1 (next_start head parent path url s rest refl heads.1),
+    )
 
 -- the steps of a tree rise where its rows are those of a store
 pub rising_tree : (tree : Forest Body) → ArePages (rows_of tree) → AreRising 0 tree

@@ -34,11 +34,13 @@ module _ {Body : Type 0} where
   pub rows_begin : (parent : Option ℕ) (path url : List ℕ) (f : Forest Body) →
       AllByRecursion (λ (row : Row Body). BeginsWith path row.path) (rows_below parent path url f)
   rows_begin parent path url bare = tt
-  rows_begin parent path url (grown i s slug body kids rest) =
-      ((s ∷ [], refl), All-append _ _ _
-      (All-weaker _ _ (λ (row : Row Body) on. (s ∷ on.0, sym (append_assoc path (s ∷ []) on.0) ∙ on.1)) _
-      (rows_begin (Some i) (path ++ s ∷ []) (child_url url slug) kids))
-      (rows_begin parent path url rest))
+  rows_begin parent path url (grown i s slug body kids rest) = (
+    (s ∷ [], refl),
+    All-append _ _ _
+        (All-weaker _ _ (λ (row : Row Body) on. (s ∷ on.0, sym (append_assoc path (s ∷ []) on.0) ∙ on.1)) _
+        (rows_begin (Some i) (path ++ s ∷ []) (child_url url slug) kids))
+        (rows_begin parent path url rest),
+  )
 
   -- the rows of a page's block are those that begin with its path
   pub block_rows : (id before : ℕ) (parent : Option ℕ) (path url : List ℕ) (f : Forest Body)
@@ -47,9 +49,11 @@ module _ {Body : Type 0} where
       ≡ b.top ∷ rows_below (Some id) b.top.path b.top.url (kids_of id f)
   block_rows id before parent path url f b =
       let inside : AllByRecursion (λ (row : Row Body). begins b.top.path row.path ≡ true)
-          (b.top ∷ rows_below (Some id) b.top.path b.top.url (kids_of id f)) =
-      (begins-self b.top.path, All-weaker _ _ (λ (row : Row Body) on. begins-BeginsWith b.top.path row.path on) _
-      (rows_begin (Some id) b.top.path b.top.url (kids_of id f))) in
+      (b.top ∷ rows_below (Some id) b.top.path b.top.url (kids_of id f)) = (
+        begins-self b.top.path,
+        All-weaker _ _ (λ (row : Row Body) on. begins-BeginsWith b.top.path row.path on) _
+            (rows_begin (Some id) b.top.path b.top.url (kids_of id f)),
+      ) in
       ap (subtree_rows b.top.path) b.rows_are
       ∙ filter_middle (λ (row : Row Body). begins b.top.path row.path) b.front
       (b.top ∷ rows_below (Some id) b.top.path b.top.url (kids_of id f)) b.behind b.front_out inside b.behind_out
@@ -69,7 +73,7 @@ range_some pages row place zero range =
     let none : place + 0 ≡ place = omega arith in
     let after = subst (λ m. AllByRecursion (λ (other : Page). BeginsWith row.path other.path → ⊥) (drop m pages)) none range.after in
     let here = subst (λ rows. AllByRecursion (λ (other : Page). BeginsWith row.path other.path → ⊥) rows)
-        (drop_at_place place pages row range.page) after in
+    (drop_at_place place pages row range.page) after in
     absurd (here.0 (BeginsWith-begins row.path row.path (begins-self row.path)))
 range_some pages row place (suc n) range = omega arith
 
@@ -118,9 +122,9 @@ found_block tree id row are found =
     let there : has_page id tree ≡ true = has_page-rows id None [] [] tree ∙ ap is_some found in
     let b = block_of id 0 None [] [] tree (rising_tree tree are) (apart_tree tree are) there in
     let all = subst (λ rows. AllByRecursion (λ (other : Page). row_with other.id (rows_of tree) ≡ Some other) rows)
-        b.rows_are (found_by_own_id (rows_of tree) are.own_ids) in
+    b.rows_are (found_by_own_id (rows_of tree) are.own_ids) in
     let parts = All-parts (λ (other : Page). row_with other.id (rows_of tree) ≡ Some other) b.front
-        (b.top ∷ (rows_below (Some id) b.top.path b.top.url (kids_of id tree) ++ b.behind)) all in
+    (b.top ∷ (rows_below (Some id) b.top.path b.top.url (kids_of id tree) ++ b.behind)) all in
     let own = parts.1.0 in
     let one : row_with id (rows_of tree) ≡ Some b.top = ap (λ n. row_with n (rows_of tree)) (sym b.id_is) ∙ own in
     (b, (let both : Some row ≡ Some b.top = sym found ∙ one in cc))
@@ -138,7 +142,7 @@ step_after-last {B = B} id top last kids is =
       | inr found ↦ (let one = last_of-push (top ∷ found.front) found.row in
           let same : found.row ≡ last = (let both : Some found.row ≡ Some last = sym one ∙ (ap (λ rows. last_of (top ∷ rows)) (sym found.is) ∙ is) in cc) in
           let path_is : last.path ≡ top.path ++ last_step 0 kids ∷ found.more =
-              ap (λ (r : Row B). r.path) (sym same) ∙ (found.path_is ∙ append_assoc top.path (last_step 0 kids ∷ []) found.more) in
+          ap (λ (r : Row B). r.path) (sym same) ∙ (found.path_is ∙ append_assoc top.path (last_step 0 kids ∷ []) found.more) in
           rw (path_is, slice_get-append top.path found.more (last_step 0 kids)) refl)
     ]
 
@@ -152,7 +156,7 @@ appended_is tree parent row last are found end =
     let b = block.0 in
     let rows = block_rows parent 0 None [] [] tree b in
     let last_is : last_of (b.top ∷ rows_below (Some parent) b.top.path b.top.url (kids_of parent tree)) ≡ Some last =
-        ap last_of (sym rows) ∙ (ap (λ (r : Page). last_of (subtree_rows r.path (rows_of tree))) (sym block.1) ∙ end) in
+    ap last_of (sym rows) ∙ (ap (λ (r : Page). last_of (subtree_rows r.path (rows_of tree))) (sym block.1) ∙ end) in
     let step = step_after-last parent b.top last (kids_of parent tree) last_is in
     let path : path_of parent tree ≡ b.top.path = b.walk_is ∙ sym b.path_is in
     rw (block.1, step, path) refl

@@ -24,12 +24,7 @@ pub fn plan_delete(alloc: Global, rows: &Rows, page: PageId) -> Result<Ids, NoMe
 }
 
 /// The ids of so many pages from a place on.
-fn ids_between(
-    alloc: Global,
-    rows: &Rows,
-    place: usize,
-    count: usize,
-) -> Result<Vec<u32>, NoMemory>
+fn ids_between(alloc: Global, rows: &Rows, place: usize, count: usize) -> Result<Vec<u32>, NoMemory>
     requires { place + count ≤ length rows.now.pages }
     ensures { IfOk result (λ ids. ids.items ≡ map (λ row. row.id) (take count (drop place rows.now.pages))) }
 {

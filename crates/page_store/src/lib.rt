@@ -11,9 +11,11 @@ mod root;
 mod rows;
 mod search;
 mod stored;
+mod urls;
 
 pub use kids::Kids;
 pub use rows::Rows;
+pub use urls::Urls;
 
 #[cfg(test)]
 mod tests;

@@ -1,5 +1,5 @@
 //! Looking pages up by id, by place and by slug.
-ghost use Rattle.std.specs.Prelude.{◌≡◌, length};
+ghost use Rattle.std.specs.Prelude.{◌≡◌, length, option_and_then};
 ghost use Rattle.std.specs.Option.{option_copied, option_map};
 ghost use Rattle.std.specs.Prelude.{slice_get};
 ghost use Rattle.page_tree.specs.Rows.{row_with, kid_named};
@@ -36,6 +36,18 @@ impl Rows {
         let found = self.stored.get(&id);
         match found {
             Some(stored) => Some(&stored.url),
+            None => None,
+        }
+    }
+
+    /// The page above a page, or `None` exactly at the root and where there is no such page. One
+    /// look-up.
+    pub fn parent(&self, id: PageId) -> Option<PageId>
+        ensures { result ≡ option_and_then (λ row. row.parent) (row_with id self.now.pages) }
+    {
+        let below = self.stored.get(&id);
+        match below {
+            Some(stored) => stored.parent,
             None => None,
         }
     }

@@ -81,7 +81,8 @@ module _ {Body : Type 0} where
   graft-lacks id place node bare lacks = refl
   graft-lacks id place node (grown i s slug body kids rest) lacks =
       let differs : nat_eq i id ≡ false = grind (arith, nat_tests) in
-      rw (differs, graft-lacks id place node kids lacks.1, graft-lacks id place node rest lacks.2) refl
+      rw (differs, graft-lacks id place node kids lacks.1, graft-lacks id place node rest lacks.2)
+      refl
 
   -- what holds of each page's id holds of that of a page that is there
   pub AllIds-has_page : (P : ℕ → Type 0) (id : ℕ) (f : Forest Body) → AllIds P f →
@@ -94,7 +95,8 @@ module _ {Body : Type 0} where
       by : (here : Bool) → nat_eq i id ≡ here → (below : Bool) → has_page id kids ≡ below →
           (has_page id kids ≡ true → P id) → (has_page id rest ≡ true → P id) →
           here || (below || has_page id rest) ≡ true → P id
-      by true e below k inside after there = let same : i ≡ id = grind (arith, nat_tests) in subst P same all.0
+      by true e below k inside after there = let same : i ≡ id = grind (arith, nat_tests) in
+          subst P same all.0
       by false e true k inside after there = inside k
       by false e false k inside after there = after there
 
@@ -116,14 +118,17 @@ module _ {Body : Type 0} where
   AllIds-turned (grown k s slug body kids rest) g all = (
     AllIds-weaker (λ j. Lacks j (grown k s slug body kids rest)) (λ j. j ≡ k → ⊥) g
         (λ j lacks e. lacks.0 (sym e)) all,
-    AllIds-turned kids g (AllIds-weaker (λ j. Lacks j (grown k s slug body kids rest)) (λ j. Lacks j kids) g
+    AllIds-turned kids g (AllIds-weaker (λ j. Lacks j (grown k s slug body kids rest))
+        (λ j. Lacks j kids) g
         (λ j lacks. lacks.1) all),
-    AllIds-turned rest g (AllIds-weaker (λ j. Lacks j (grown k s slug body kids rest)) (λ j. Lacks j rest) g
+    AllIds-turned rest g (AllIds-weaker (λ j. Lacks j (grown k s slug body kids rest))
+        (λ j. Lacks j rest) g
         (λ j lacks. lacks.2) all),
   )
 
   -- what holds of the parent and of each page holds of each row's parent
-  pub rows_parents : (P : Option ℕ → Type 0) (parent : Option ℕ) (path url : List ℕ) (f : Forest Body) →
+  pub rows_parents : (P : Option ℕ → Type 0) (parent : Option ℕ) (path url : List ℕ)
+      (f : Forest Body) →
       P parent → AllIds (λ j. P (Some j)) f →
       AllByRecursion (λ (row : Row Body). P row.parent) (rows_below parent path url f)
   rows_parents P parent path url bare one all = tt
@@ -140,17 +145,24 @@ module _ {Body : Type 0} where
   rows_ids P parent path url bare all = tt
   rows_ids P parent path url (grown i s slug body kids rest) all = (
     all.0,
-    All-append _ _ _ (rows_ids P (Some i) (path ++ s ∷ []) (child_url url slug) kids all.1)
+    All-append _ _ _
+        (rows_ids P (Some i) (path ++ s ∷ []) (child_url url slug) kids all.1)
         (rows_ids P parent path url rest all.2),
   )
 
   -- what holds of each page holds of each that is left after a cut
-  pub AllIds-without : (P : ℕ → Type 0) (id : ℕ) (f : Forest Body) → AllIds P f → AllIds P (without id f)
+  pub AllIds-without : (P : ℕ → Type 0) (id : ℕ) (f : Forest Body) → AllIds P f →
+      AllIds P (without id f)
   AllIds-without P id bare all = tt
   AllIds-without P id (grown i s slug body kids rest) all =
-      either (nat_eq i id) all.2 (all.0, AllIds-without P id kids all.1, AllIds-without P id rest all.2)
+      either (nat_eq i id) all.2 (
+        all.0,
+        AllIds-without P id kids all.1,
+        AllIds-without P id rest all.2,
+      )
     where
-      either : (t : Bool) → AllIds P rest → AllIds P (grown i s slug body (without id kids) (without id rest)) →
+      either : (t : Bool) → AllIds P rest →
+          AllIds P (grown i s slug body (without id kids) (without id rest)) →
           AllIds P (cond t rest (grown i s slug body (without id kids) (without id rest)))
       either true cut kept = cut
       either false cut kept = kept
@@ -171,19 +183,22 @@ module _ {Body : Type 0} where
         AreApart-without id rest apart.2,
       )
     where
-      either : (t : Bool) → AreApart rest → AreApart (grown i s slug body (without id kids) (without id rest)) →
+      either : (t : Bool) → AreApart rest →
+          AreApart (grown i s slug body (without id kids) (without id rest)) →
           AreApart (cond t rest (grown i s slug body (without id kids) (without id rest)))
       either true cut kept = cut
       either false cut kept = kept
 
   -- steps that rise from above one number rise from above each lower one
-  AreRising-lower : (low before : ℕ) (f : Forest Body) → low ≤ before → AreRising before f → AreRising low f
+  AreRising-lower : (low before : ℕ) (f : Forest Body) → low ≤ before → AreRising before f →
+      AreRising low f
   AreRising-lower low before bare lower rising = tt
   AreRising-lower low before (grown i s slug body kids rest) lower rising =
       let first = rising.0 in (omega arith, rising.1, rising.2)
 
   -- steps go on rising after a cut
-  pub AreRising-without : (id before : ℕ) (f : Forest Body) → AreRising before f → AreRising before (without id f)
+  pub AreRising-without : (id before : ℕ) (f : Forest Body) → AreRising before f →
+      AreRising before (without id f)
   AreRising-without id before bare rising = tt
   AreRising-without id before (grown i s slug body kids rest) rising =
       let first = rising.0 in
@@ -201,10 +216,12 @@ module _ {Body : Type 0} where
   unfolding IsDistinct
   AreApart-distinct bare distinct = tt
   AreApart-distinct (grown i s slug body kids rest) distinct =
-      let others = All-weaker (λ j. nat_eq i j ≡ false) (λ j. j ≡ i → ⊥) (apart_by_test i) (ids_of kids ++ ids_of rest) distinct.0 in
+      let others = All-weaker (λ j. nat_eq i j ≡ false) (λ j. j ≡ i →
+      ⊥) (apart_by_test i) (ids_of kids ++ ids_of rest) distinct.0 in
       let sides = All-parts (λ j. j ≡ i → ⊥) (ids_of kids) (ids_of rest) others in
       let parts = distinct_parts (ids_of kids) (ids_of rest) distinct.1 in
-      let between = All-weaker (λ j. AllByRecursion (λ k. k ≡ j → ⊥) (ids_of kids)) (λ j. Lacks j kids)
+      let between = All-weaker (λ j. AllByRecursion (λ k. k ≡ j → ⊥) (ids_of kids))
+      (λ j. Lacks j kids)
       (λ j all. AllIds-ids_of (λ k. k ≡ j → ⊥) kids all) (ids_of rest) parts.apart in (
         (
           AllIds-ids_of (λ j. j ≡ i → ⊥) kids sides.0,

@@ -26,14 +26,16 @@ use Rattle.path_moves.proofs.SubtreeLemmas.{range_rows, last_path_is, found_bloc
 -- the row of a page keeps the text of its path
 pub row_text : (pages : List Page) (id : ℕ) (kept : PageRow) (text : List ℕ) → ArePages pages →
     Some kept ≡ option_map page_row (row_with id pages) → text ≡ kept.path →
-    IsPathText text × (option_map (λ (row : Page). row.path) (row_with id pages) ≡ Some (steps_of text))
+    IsPathText text × (option_map (λ (row : Page). row.path) (row_with id pages)
+    ≡ Some (steps_of text))
 row_text pages id kept text are is same = by (row_with id pages) refl is
   where
     by : (o : Option Page) → row_with id pages ≡ o → Some kept ≡ option_map page_row o →
         IsPathText text × (option_map (λ (row : Page). row.path) o ≡ Some (steps_of text))
     by None e is = absurd cc
     by (Some row) e is =
-        let path = All-find (λ (r : Page). IsPath r.path) (λ (r : Page). nat_eq r.id id) pages row are.paths e in
+        let path = All-find (λ (r : Page). IsPath r.path) (λ (r : Page). nat_eq r.id id) pages row
+        are.paths e in
         let one : kept ≡ page_row row = cc in
         let text_is : text ≡ path_text row.path = same ∙ ap (λ (r : PageRow). r.path) one in (
           rw text_is (IsPathText-path_text row.path path),
@@ -52,14 +54,16 @@ last_found pages id place n last row path are range found is one =
     is ∙ last_path_is pages row place n last are own (sym found)
 
 -- where one element passes a test, the elements that pass have a last one
-last_of_filter : {X : Type 0} (test : X → Bool) (xs : List X) (own : X → Bool) (x : X) → find own xs ≡ Some x →
+last_of_filter : {X : Type 0} (test : X → Bool) (xs : List X) (own : X → Bool) (x : X) →
+    find own xs ≡ Some x →
     test x ≡ true → (y : X) × (last_of (filter test xs) ≡ Some y)
 last_of_filter {X = X} test xs own x found passes =
     let long = some xs found in
     there_is (filter test xs) (length (filter test xs) - 1) (omega arith)
   where
     by : (ys : List X) (y : X) (own_y test_y : Bool) → own y ≡ own_y → test y ≡ test_y →
-        cond own_y (Some y) (find own ys) ≡ Some x → (find own ys ≡ Some x → 0 < length (filter test ys)) →
+        cond own_y (Some y) (find own ys) ≡ Some x →
+        (find own ys ≡ Some x → 0 < length (filter test ys)) →
         0 < length (cond test_y (y ∷ filter test ys) (filter test ys))
     by ys y own_y true e k found more = omega arith
     by ys y true false e k found more = let same : y ≡ x = cc in
@@ -77,14 +81,17 @@ pub has_last : (pages : List Page) (id : ℕ) (path : List ℕ) →
     None ≡ option_map (λ (last : Page). last.path) (last_of (subtree_rows row.path pages))) → ⊥
 has_last pages id path found none = by (row_with id pages) refl found
   where
-    by : (o : Option Page) → row_with id pages ≡ o → Some path ≡ option_map (λ (row : Page). row.path) o → ⊥
+    by : (o : Option Page) → row_with id pages ≡ o →
+        Some path ≡ option_map (λ (row : Page). row.path) o → ⊥
     by None e is = cc
     by (Some row) e is =
-        let last = last_of_filter (λ (r : Page). begins row.path r.path) pages (λ (r : Page). nat_eq r.id id) row e (begins-self row.path) in
+        let last = last_of_filter (λ (r : Page). begins row.path r.path) pages
+        (λ (r : Page). nat_eq r.id id) row e (begins-self row.path) in
         let never = rw last.1 at (none row e) in cc
 
 -- the path of an appended page is the tree's
-pub append_is : (pages : List Page) (id : ℕ) (path last : List ℕ) (tree : Forest Body) → ArePages pages →
+pub append_is : (pages : List Page) (id : ℕ) (path last : List ℕ) (tree : Forest Body) →
+    ArePages pages →
     Some path ≡ option_map (λ (row : Page). row.path) (row_with id pages) →
     ((row : Page) → row_with id pages ≡ Some row →
     Some last ≡ option_map (λ (other : Page). other.path) (last_of (subtree_rows row.path pages))) →
@@ -93,7 +100,8 @@ pub append_is : (pages : List Page) (id : ℕ) (path last : List ℕ) (tree : Fo
 append_is pages id path last tree are found end same =
     by (rows_of tree) refl (rw same at are) (rw same at found) (rw same at end)
   where
-    deeper : (rows : List Page) → rows ≡ rows_of tree → ArePages rows → (row : Page) → row_with id rows ≡ Some row →
+    deeper : (rows : List Page) → rows ≡ rows_of tree → ArePages rows → (row : Page) →
+        row_with id rows ≡ Some row →
         path ≡ row.path → (o : Option Page) → last_of (subtree_rows row.path rows) ≡ o →
         Some last ≡ option_map (λ (other : Page). other.path) o →
         path_below path (step_after path last) ≡ appended_path id tree
@@ -105,11 +113,13 @@ append_is pages id path last tree are found end same =
     by : (rows : List Page) → rows ≡ rows_of tree → ArePages rows →
         Some path ≡ option_map (λ (row : Page). row.path) (row_with id rows) →
         ((row : Page) → row_with id rows ≡ Some row →
-        Some last ≡ option_map (λ (other : Page). other.path) (last_of (subtree_rows row.path rows))) →
+        Some last ≡ option_map (λ (other : Page). other.path)
+        (last_of (subtree_rows row.path rows))) →
         path_below path (step_after path last) ≡ appended_path id tree
     by rows is are found end = inner (row_with id rows) refl found
       where
-        inner : (o : Option Page) → row_with id rows ≡ o → Some path ≡ option_map (λ (row : Page). row.path) o →
+        inner : (o : Option Page) → row_with id rows ≡ o →
+            Some path ≡ option_map (λ (row : Page). row.path) o →
             path_below path (step_after path last) ≡ appended_path id tree
         inner None e found = absurd cc
         inner (Some row) e found =
@@ -145,7 +155,15 @@ ids_more pages place done id ids new so_far found is =
     by (Some row) e found =
         let same : id ≡ row.id = cc in
         let more = take_one_more (drop place pages) done row e in
-        rw (add-one, more, map-append (λ (r : Page). r.id) (take done (drop place pages)) (row ∷ []), is, so_far, same) refl
+        rw (
+          add-one,
+          more,
+          map-append (λ (r : Page). r.id) (take done (drop place pages))
+              (row ∷ []),
+          is,
+          so_far,
+          same,
+        ) refl
 
 -- the ids of the rows are those of the tree
 pub ids_of-rows : {B : Type 0} (parent : Option ℕ) (path url : List ℕ) (f : Forest B) →
@@ -153,34 +171,42 @@ pub ids_of-rows : {B : Type 0} (parent : Option ℕ) (path url : List ℕ) (f : 
 ids_of-rows parent path url bare = refl
 ids_of-rows {B = B} parent path url (grown i s slug body kids rest) =
     rw (
-      map-append (λ (row : Row B). row.id) (rows_below (Some i) (path ++ s ∷ []) (child_url url slug) kids)
+      map-append (λ (row : Row B). row.id)
+          (rows_below (Some i) (path ++ s ∷ []) (child_url url slug) kids)
           (rows_below parent path url rest),
       ids_of-rows (Some i) (path ++ s ∷ []) (child_url url slug) kids,
       ids_of-rows parent path url rest,
     ) refl
 
 -- nothing stands for a page that is not there
-pub node_of-absent : {B : Type 0} (id : ℕ) (f : Forest B) → has_page id f ≡ false → node_of id f ≡ bare
+pub node_of-absent : {B : Type 0} (id : ℕ) (f : Forest B) → has_page id f ≡ false →
+    node_of id f ≡ bare
 node_of-absent id bare absent = refl
 node_of-absent id (grown i s slug body kids rest) absent =
-    by (nat_eq i id) (has_page id kids) refl absent (node_of-absent id kids) (node_of-absent id rest)
+    by (nat_eq i id) (has_page id kids) refl absent (node_of-absent id kids)
+    (node_of-absent id rest)
   where
-    by : (here below : Bool) → has_page id kids ≡ below → here || (below || has_page id rest) ≡ false →
-        (has_page id kids ≡ false → node_of id kids ≡ bare) → (has_page id rest ≡ false → node_of id rest ≡ bare) →
-        cond here (grown i s slug body kids bare) (or_else (node_of id kids) (node_of id rest)) ≡ bare
+    by : (here below : Bool) → has_page id kids ≡ below → here || (below || has_page id rest)
+        ≡ false →
+        (has_page id kids ≡ false → node_of id kids ≡ bare) →
+        (has_page id rest ≡ false → node_of id rest ≡ bare) →
+        cond here (grown i s slug body kids bare) (or_else (node_of id kids) (node_of id rest))
+        ≡ bare
     by true below e absent inside after = absurd cc
     by false true e absent inside after = absurd cc
     by false false e absent inside after = rw (inside e, after absent) refl
 
 -- the ids of a range are those of the page and of all below it
-pub deleted_is : (pages : List Page) (id place n : ℕ) (ids : List ℕ) (tree : Forest Body) → ArePages pages →
+pub deleted_is : (pages : List Page) (id place n : ℕ) (ids : List ℕ) (tree : Forest Body) →
+    ArePages pages →
     IsSome (row_with id pages) → IfSome (row_with id pages) (λ row. IsRange pages row place n) →
     ids ≡ map (λ (row : Page). row.id) (take n (drop place pages)) → pages ≡ rows_of tree →
     ids ≡ ids_of (node_of id tree)
 deleted_is pages id place n ids tree are there range is same =
     by (row_with id pages) refl there range
   where
-    by : (o : Option Page) → row_with id pages ≡ o → IsSome o → IfSome o (λ row. IsRange pages row place n) →
+    by : (o : Option Page) → row_with id pages ≡ o → IsSome o →
+        IfSome o (λ row. IsRange pages row place n) →
         ids ≡ ids_of (node_of id tree)
     by None e there range = absurd (search rules)
     by (Some row) e there range =
@@ -188,9 +214,11 @@ deleted_is pages id place n ids tree are there range is same =
         let block = found_block tree id row (rw same at are) found in
         let b = block.0 in
         let window = range_rows pages row place n range in
-        let rows : take n (drop place pages) ≡ b.top ∷ rows_below (Some id) b.top.path b.top.url (kids_of id tree) =
+        let rows : take n (drop place pages)
+        ≡ b.top ∷ rows_below (Some id) b.top.path b.top.url (kids_of id tree) =
         sym window ∙ (ap (subtree_rows row.path) same
-        ∙ (ap (λ (r : Page). subtree_rows r.path (rows_of tree)) block.1 ∙ block_rows id 0 None [] [] tree b)) in
+        ∙ (ap (λ (r : Page). subtree_rows r.path (rows_of tree)) block.1
+        ∙ block_rows id 0 None [] [] tree b)) in
         rw (
           is,
           rows,
@@ -202,7 +230,8 @@ deleted_is pages id place n ids tree are there range is same =
 
 -- and there are none where there is no such page
 pub none_deleted : (pages : List Page) (id : ℕ) (ids : List ℕ) (tree : Forest Body) →
-    (IsSome (row_with id pages) → ⊥) → ids ≡ [] → pages ≡ rows_of tree → ids ≡ ids_of (node_of id tree)
+    (IsSome (row_with id pages) → ⊥) → ids ≡ [] → pages ≡ rows_of tree →
+    ids ≡ ids_of (node_of id tree)
 none_deleted pages id ids tree absent is same =
     by (is_some (row_with id pages)) refl
   where
@@ -210,5 +239,6 @@ none_deleted pages id ids tree absent is same =
     by true e = absurd (absent e)
     by false e =
         let there : has_page id tree ≡ false =
-        has_page-rows id None [] [] tree ∙ (ap (λ rows. is_some (row_with id rows)) (sym same) ∙ e) in
+        has_page-rows id None [] [] tree
+        ∙ (ap (λ rows. is_some (row_with id rows)) (sym same) ∙ e) in
         rw (is, node_of-absent id tree there) refl

@@ -23,28 +23,30 @@ use Rattle.path_moves.proofs.SubtreeLemmas.{rows_begin, block_rows}
 use Rattle.path_moves.proofs.GraftLemmas.{rows_below-put_last, rows_below-relabelled}
 
 -- a search passes over what fails
-find-skip : {X : Type 0} (test : X → Bool) (xs : List X) (y : X) (ys : List X) →
+pub find-skip : {X : Type 0} (test : X → Bool) (xs : List X) (y : X) (ys : List X) →
     AllByRecursion (λ x. test x ≡ false) xs → test y ≡ true → find test (xs ++ y ∷ ys) ≡ Some y
 find-skip test [] y ys none passes = rw passes refl
 find-skip test (x ∷ xs) y ys none passes = rw none.0 (find-skip test xs y ys none.1 passes)
 
 -- the first of these that fails stands behind those that pass
-leading-front : {X : Type 0} (test : X → Bool) (front : List X) (y : X) (ys : List X) →
-    AllByRecursion (λ x. test x ≡ true) front → test y ≡ false → leading test (front ++ y ∷ ys) ≡ length front
+pub leading-front : {X : Type 0} (test : X → Bool) (front : List X) (y : X) (ys : List X) →
+    AllByRecursion (λ x. test x ≡ true) front → test y ≡ false → leading test (front ++ y ∷ ys)
+    ≡ length front
 leading-front test [] y ys all fails = rw fails refl
 leading-front test (x ∷ front) y ys all fails =
     let more = leading-front test front y ys all.1 fails in rw (all.0, more) (omega arith)
 
 -- ids that differ are told apart
-other_id : (p i : ℕ) → (i ≡ p → ⊥) → nat_eq i p ≡ false
+pub other_id : (p i : ℕ) → (i ≡ p → ⊥) → nat_eq i p ≡ false
 other_id p i other = grind (arith, nat_tests)
 
 -- and from the other side
-other_parent : (p i : ℕ) → (i ≡ p → ⊥) → nat_eq p i ≡ false
+pub other_parent : (p i : ℕ) → (i ≡ p → ⊥) → nat_eq p i ≡ false
 other_parent p i other = grind (arith, nat_tests)
 
 -- one kid more leaves the rows of other pages
-raise-others : (p : ℕ) (rows : List Page) → AllByRecursion (λ (row : Page). row.id ≡ p → ⊥) rows →
+pub raise-others : (p : ℕ) (rows : List Page) →
+    AllByRecursion (λ (row : Page). row.id ≡ p → ⊥) rows →
     raise_count (Some p) rows ≡ rows
 raise-others p [] others = refl
 raise-others p (row ∷ rows) others =
@@ -65,21 +67,28 @@ put_behind-parts : (path : List ℕ) (new front : List Page) (y : Page) (ys behi
     put_behind path new (front ++ (y ∷ (ys ++ behind))) ≡ front ++ (y ∷ (ys ++ (new ++ behind)))
 put_behind-parts path new front y ys behind out inside rest =
     let test : Page → Bool = λ row. begins path row.path in
-    let outside = All-weaker (λ (row : Page). begins path row.path ≡ false) (λ (row : Page). not (begins path row.path) ≡ true)
+    let outside = All-weaker (λ (row : Page). begins path row.path
+    ≡ false) (λ (row : Page). not (begins path row.path) ≡ true)
     (λ row e. ap not e) front out in
-    let start = leading-front (λ (row : Page). not (begins path row.path)) front y (ys ++ behind) outside (ap not inside.0) in
-    let middle = filter_middle (λ (row : Page). begins path row.path) front (y ∷ ys) behind out inside rest in
+    let start = leading-front (λ (row : Page). not (begins path row.path)) front y (ys ++ behind)
+    outside (ap not inside.0) in
+    let middle = filter_middle (λ (row : Page). begins path row.path) front (y ∷ ys) behind out
+    inside rest in
     let end : end_of path (front ++ (y ∷ (ys ++ behind))) ≡ length (front ++ (y ∷ ys)) =
     rw (start, middle) (sym (length-append front (y ∷ ys))) in
-    let whole : front ++ (y ∷ (ys ++ behind)) ≡ (front ++ (y ∷ ys)) ++ behind = sym (append_assoc front (y ∷ ys) behind) in
-    let taken : take (length (front ++ (y ∷ ys))) (front ++ (y ∷ (ys ++ behind))) ≡ front ++ (y ∷ ys) =
-    ap (take (length (front ++ (y ∷ ys)))) whole ∙ take-append_seam (front ++ (y ∷ ys)) behind in
+    let whole : front ++ (y ∷ (ys ++ behind)) ≡ (front ++ (y ∷ ys))
+    ++ behind = sym (append_assoc front (y ∷ ys) behind) in
+    let taken : take (length (front ++ (y ∷ ys))) (front ++ (y ∷ (ys ++ behind))) ≡ front
+    ++ (y ∷ ys) =
+    ap (take (length (front ++ (y ∷ ys)))) whole
+    ∙ take-append_seam (front ++ (y ∷ ys)) behind in
     let left : drop (length (front ++ (y ∷ ys))) (front ++ (y ∷ (ys ++ behind))) ≡ behind =
-    ap (drop (length (front ++ (y ∷ ys)))) whole ∙ drop-append_seam (front ++ (y ∷ ys)) behind in
+    ap (drop (length (front ++ (y ∷ ys)))) whole
+    ∙ drop-append_seam (front ++ (y ∷ ys)) behind in
     rw (end, taken, left) (append_assoc front (y ∷ ys) (new ++ behind))
 
 -- the block of a page that has a row, in a tree whose ids are apart
-block_in : (tree : Forest Body) (id : ℕ) (top : Page) → AreRising 0 tree → AreApart tree →
+pub block_in : (tree : Forest Body) (id : ℕ) (top : Page) → AreRising 0 tree → AreApart tree →
     row_with id (rows_of tree) ≡ Some top → (b : Block id 0 None [] [] tree) × (top ≡ b.top)
 block_in tree id top rising apart found =
     let there : has_page id tree ≡ true = has_page-rows id None [] [] tree ∙ ap is_some found in
@@ -97,21 +106,26 @@ block_others : (tree : Forest Body) (id : ℕ) (b : Block id 0 None [] [] tree) 
 block_others tree id b =
     let test : Page → Bool = λ row. not (begins b.top.path row.path) in
     let inner = rows_below (Some id) b.top.path b.top.url (kids_of id tree) in
-    let inside : AllByRecursion (λ (row : Page). not (begins b.top.path row.path) ≡ false) (b.top ∷ inner) = (
+    let inside : AllByRecursion (λ (row : Page). not (begins b.top.path row.path)
+    ≡ false) (b.top ∷ inner) = (
       ap not (begins-self b.top.path),
       All-weaker _ (λ (row : Page). not (begins b.top.path row.path) ≡ false)
           (λ (row : Page) on. ap not (begins-BeginsWith b.top.path row.path on)) _
           (rows_begin (Some id) b.top.path b.top.url (kids_of id tree)),
     ) in
-    let out = All-weaker (λ (row : Page). begins b.top.path row.path ≡ false) (λ (row : Page). not (begins b.top.path row.path) ≡ true)
+    let out = All-weaker (λ (row : Page). begins b.top.path row.path
+    ≡ false) (λ (row : Page). not (begins b.top.path row.path) ≡ true)
     (λ row e. ap not e) in
     rw (
       b.rows_are,
-      filter-append (λ (row : Page). not (begins b.top.path row.path)) b.front (b.top ∷ (inner ++ b.behind)),
+      filter-append (λ (row : Page). not (begins b.top.path row.path)) b.front
+          (b.top ∷ (inner ++ b.behind)),
       filter-append (λ (row : Page). not (begins b.top.path row.path)) (b.top ∷ inner) b.behind,
       filter_none (λ (row : Page). not (begins b.top.path row.path)) (b.top ∷ inner) inside,
-      filter_all (λ (row : Page). not (begins b.top.path row.path)) b.front (out b.front b.front_out),
-      filter_all (λ (row : Page). not (begins b.top.path row.path)) b.behind (out b.behind b.behind_out),
+      filter_all (λ (row : Page). not (begins b.top.path row.path)) b.front
+          (out b.front b.front_out),
+      filter_all (λ (row : Page). not (begins b.top.path row.path)) b.behind
+          (out b.behind b.behind_out),
     ) refl
 
 -- no page is the parent of the root
@@ -125,10 +139,12 @@ cut_of : (id : ℕ) (tree : Forest Body) (top : Page) → AreRising 0 tree → A
 cut_of id tree top rising apart found =
     let block = block_in tree id top rising apart found in
     let b = block.0 in
-    rw block.1 (b.cut_is (rootless tree) ∙ ap (lower_count b.top.parent) (sym (block_others tree id b)))
+    rw block.1 (b.cut_is (rootless tree)
+    ∙ ap (lower_count b.top.parent) (sym (block_others tree id b)))
 
 -- what a graft puts in
-graft_of : (parent id step : ℕ) (slug : List ℕ) (body : Body) (kids tree : Forest Body) (top : Page) →
+graft_of : (parent id step : ℕ) (slug : List ℕ) (body : Body) (kids tree : Forest Body)
+    (top : Page) →
     AreRising 0 tree → AreApart tree → row_with parent (rows_of tree) ≡ Some top →
     rows_of (graft parent End (grown id step slug body kids bare) tree)
     ≡ put_behind top.path
@@ -140,38 +156,51 @@ graft_of parent id step slug body kids tree top rising apart found =
     let b = block.0 in
     let node = grown id step slug body kids bare in
     let inner = rows_below (Some parent) b.top.path b.top.url (kids_of parent tree) in
-    let new = rows_below (Some parent) b.top.path b.top.url (placed node (last_step 0 (kids_of parent tree) + 1) bare) in
-    let inside : AllByRecursion (λ (row : Page). begins b.top.path row.path ≡ true) (with_kid b.top ∷ inner) = (
+    let new = rows_below (Some parent) b.top.path b.top.url
+    (placed node (last_step 0 (kids_of parent tree) + 1) bare) in
+    let inside : AllByRecursion (λ (row : Page). begins b.top.path row.path
+    ≡ true) (with_kid b.top ∷ inner) = (
       begins-self b.top.path,
       All-weaker _ (λ (row : Page). begins b.top.path row.path ≡ true)
           (λ (row : Page) on. begins-BeginsWith b.top.path row.path on) _
           (rows_begin (Some parent) b.top.path b.top.url (kids_of parent tree)),
     ) in
     let own : nat_eq parent b.top.id ≡ true = (let same = b.id_is in grind (arith, nat_tests)) in
-    let raised : raise_count (Some parent) (rows_of tree) ≡ b.front ++ (with_kid b.top ∷ (inner ++ b.behind)) =
+    let raised : raise_count (Some parent) (rows_of tree) ≡ b.front
+    ++ (with_kid b.top ∷ (inner ++ b.behind)) =
     rw (
       b.rows_are,
-      map-append (λ (row : Page). cond (is_parent row.id (Some parent)) (with_kid row) row) b.front (b.top ∷ (inner ++ b.behind)),
+      map-append
+          (λ (row : Page). cond (is_parent row.id (Some parent)) (with_kid row) row) b.front
+          (b.top ∷ (inner ++ b.behind)),
       own,
       raise-others parent b.front b.front_ids,
       raise-others parent (inner ++ b.behind) (All-append _ _ _ b.inner_ids b.behind_ids),
-    ) refl in
-    let count : with_count (kid_count (put_last 0 node (kids_of parent tree))) b.top ≡ with_kid b.top =
-    ap (λ n. with_count n b.top) (kid_count-put_last 0 id step slug body kids (kids_of parent tree) ∙ ap (λ n. n + 1) (sym b.count_is)) in
+    ) refl
+    in
+    let count : with_count (kid_count (put_last 0 node (kids_of parent tree))) b.top
+    ≡ with_kid b.top =
+    ap (λ n. with_count n b.top)
+    (kid_count-put_last 0 id step slug body kids (kids_of parent tree)
+    ∙ ap (λ n. n + 1) (sym b.count_is)) in
     rw (block.1, raised) (
     b.graft_is End node
     ∙ (rw (
       count,
-      rows_below-put_last (Some parent) b.top.path b.top.url 0 node (kids_of parent tree),
+      rows_below-put_last (Some parent) b.top.path b.top.url 0 node
+          (kids_of parent tree),
       append_assoc inner new b.behind,
     ) refl
-    ∙ sym (put_behind-parts b.top.path new b.front (with_kid b.top) inner b.behind b.front_out inside b.behind_out)))
+    ∙ sym (put_behind-parts b.top.path new b.front (with_kid b.top) inner b.behind b.front_out
+    inside b.behind_out)))
 
 -- the rows of a page at another place
-pub relabelled_is : (id parent at : ℕ) (path url : List ℕ) (tree : Forest Body) (top : Page) → IsTree tree →
+pub relabelled_is : (id parent at : ℕ) (path url : List ℕ) (tree : Forest Body) (top : Page) →
+    IsTree tree →
     row_with id (rows_of tree) ≡ Some top →
     rows_below (Some parent) path url (placed (node_of id tree) at bare)
-    ≡ moved_rows parent (path ++ at ∷ []) (child_url url top.slug) (subtree_rows top.path (rows_of tree))
+    ≡ moved_rows parent (path ++ at ∷ []) (child_url url top.slug)
+    (subtree_rows top.path (rows_of tree))
 relabelled_is id parent at path url tree top is found =
     let block = block_in tree id top is.rising (AreApart-distinct tree is.distinct) found in
     let b = block.0 in
@@ -179,18 +208,30 @@ relabelled_is id parent at path url tree top is found =
     let new_path = path ++ at ∷ [] in
     let new_url = child_url url b.top.slug in
     let old = rows_below (Some id) b.top.path b.top.url kids in
-    let moved_below : rows_below (Some id) new_path new_url kids ≡ map (relabel_row b.top.path new_path b.top.url new_url) old =
+    let moved_below : rows_below (Some id) new_path new_url kids
+    ≡ map (relabel_row b.top.path new_path b.top.url new_url) old =
     rw (append-nil new_path, append-nil new_url, append-nil b.top.path, append-nil b.top.url)
     at (rows_below-relabelled (Some id) b.top.path new_path [] b.top.url new_url [] kids) in
-    rw (block.1, block_rows id 0 None [] [] tree b, b.node_is, append-nil (rows_below (Some id) new_path new_url kids), moved_below, b.id_is, b.count_is) refl
+    rw (
+      block.1,
+      block_rows id 0 None [] [] tree b,
+      b.node_is,
+      append-nil (rows_below (Some id) new_path new_url kids),
+      moved_below,
+      b.id_is,
+      b.count_is,
+    ) refl
 
 -- a cut, in a tree of pages
-pub cut_is : (id : ℕ) (tree : Forest Body) (top : Page) → IsTree tree → row_with id (rows_of tree) ≡ Some top →
+pub cut_is : (id : ℕ) (tree : Forest Body) (top : Page) → IsTree tree → row_with id (rows_of tree)
+    ≡ Some top →
     rows_of (without id tree) ≡ cut_rows top (rows_of tree)
-cut_is id tree top is found = cut_of id tree top is.rising (AreApart-distinct tree is.distinct) found
+cut_is id tree top is found = cut_of id tree top is.rising (AreApart-distinct tree is.distinct)
+    found
 
 -- a graft, in a tree of pages
-pub graft_is : (parent id step : ℕ) (slug : List ℕ) (body : Body) (kids tree : Forest Body) (top : Page) →
+pub graft_is : (parent id step : ℕ) (slug : List ℕ) (body : Body) (kids tree : Forest Body)
+    (top : Page) →
     IsTree tree → row_with parent (rows_of tree) ≡ Some top →
     rows_of (graft parent End (grown id step slug body kids bare) tree)
     ≡ put_behind top.path
@@ -198,7 +239,8 @@ pub graft_is : (parent id step : ℕ) (slug : List ℕ) (body : Body) (kids tree
     (placed (grown id step slug body kids bare) (step_needed End (kids_of parent tree)) bare))
     (raise_count (Some parent) (rows_of tree))
 graft_is parent id step slug body kids tree top is found =
-    graft_of parent id step slug body kids tree top is.rising (AreApart-distinct tree is.distinct) found
+    graft_of parent id step slug body kids tree top is.rising (AreApart-distinct tree is.distinct)
+    found
 
 -- a move behind the last kid, in a tree of pages
 pub move_is : (id parent : ℕ) (tree : Forest Body) (top above : Page) → IsTree tree →
@@ -215,8 +257,10 @@ move_is id parent tree top above is found left =
     let b = block.0 in
     let cut = cut_is id tree top is found in
     let rising = AreRising-without id 0 tree is.rising in
-    let grafted = graft_of parent id b.own_step b.top.slug b.top.body (kids_of id tree) (without id tree) above rising
+    let grafted = graft_of parent id b.own_step b.top.slug b.top.body (kids_of id tree)
+    (without id tree) above rising
     (AreApart-without id tree apart) (ap (row_with parent) cut ∙ left) in
-    let labels = relabelled_is id parent (step_needed End (kids_of parent (without id tree))) above.path above.url tree top is found in
+    let labels = relabelled_is id parent (step_needed End (kids_of parent (without id tree)))
+    above.path above.url tree top is found in
     ap (λ node. rows_of (graft parent End node (without id tree))) b.node_is
     ∙ (grafted ∙ rw (← cut, ← labels, b.node_is) refl)

@@ -7,4 +7,5 @@ pub mod SubtreeLemmas
 pub mod CallLemmas
 pub mod GraftLemmas
 pub mod LawLemmas
+pub mod PlaceLemmas
 mod Examples

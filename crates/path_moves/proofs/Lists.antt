@@ -16,11 +16,13 @@ All-parts P (x ∷ xs) ys all = let more = All-parts P xs ys all.1 in ((all.0, m
 
 -- what holds between each of these and each of those holds between each of those and each of these
 pub All-turned : {X Y : Type 0} (R : X → Y → Type 0) (xs : List X) (ys : List Y) →
-    AllByRecursion (λ x. AllByRecursion (R x) ys) xs → AllByRecursion (λ y. AllByRecursion (λ x. R x y) xs) ys
+    AllByRecursion (λ x. AllByRecursion (R x) ys) xs →
+    AllByRecursion (λ y. AllByRecursion (λ x. R x y) xs) ys
 All-turned R xs [] all = tt
 All-turned R xs (y ∷ ys) all = (
   All-weaker (λ x. AllByRecursion (R x) (y ∷ ys)) (λ x. R x y) (λ x both. both.0) xs all,
-  All-turned R xs ys (All-weaker (λ x. AllByRecursion (R x) (y ∷ ys)) (λ x. AllByRecursion (R x) ys)
+  All-turned R xs ys (All-weaker (λ x. AllByRecursion (R x) (y ∷ ys))
+      (λ x. AllByRecursion (R x) ys)
       (λ x both. both.1) xs all),
 )
 
@@ -34,13 +36,15 @@ EachPair-parts R (x ∷ xs) ys pairs =
     ((heads.0, more.0), more.1, (heads.1, more.2))
 
 -- where all pass, a filter keeps all
-pub filter_all : {X : Type 0} (test : X → Bool) (xs : List X) → AllByRecursion (λ x. test x ≡ true) xs →
+pub filter_all : {X : Type 0} (test : X → Bool) (xs : List X) →
+    AllByRecursion (λ x. test x ≡ true) xs →
     filter test xs ≡ xs
 filter_all test [] all = refl
 filter_all test (x ∷ xs) all = rw (all.0, filter_all test xs all.1) refl
 
 -- where none passes, it keeps none
-pub filter_none : {X : Type 0} (test : X → Bool) (xs : List X) → AllByRecursion (λ x. test x ≡ false) xs →
+pub filter_none : {X : Type 0} (test : X → Bool) (xs : List X) →
+    AllByRecursion (λ x. test x ≡ false) xs →
     filter test xs ≡ []
 filter_none test [] all = refl
 filter_none test (x ∷ xs) all = rw all.0 (filter_none test xs all.1)
@@ -66,7 +70,8 @@ pub filter_window : {X : Type 0} (test : X → Bool) (xs : List X) (place n : �
     filter test xs ≡ take n (drop place xs)
 filter_window test xs place n none all rest =
     let parts = sym (take-append-drop place xs) ∙ ap (λ ys. take place xs ++ ys)
-    (sym (take-append-drop n (drop place xs)) ∙ ap (λ ys. take n (drop place xs) ++ ys) (drop-drop n place xs)) in
+    (sym (take-append-drop n (drop place xs))
+    ∙ ap (λ ys. take n (drop place xs) ++ ys) (drop-drop n place xs)) in
     ap (filter test) parts ∙ filter_middle test _ _ _ none all rest
 
 -- the element at a place behind others
@@ -79,7 +84,8 @@ slice_get-drop (x ∷ xs) (suc place) j zero is = absurd (omega arith)
 slice_get-drop (x ∷ xs) (suc place) j (suc k) is = slice_get-drop xs place j k (omega arith)
 
 -- the element at a place among the first ones
-pub slice_get-take : {X : Type 0} (xs : List X) (n j : ℕ) → j < n → slice_get (take n xs) j ≡ slice_get xs j
+pub slice_get-take : {X : Type 0} (xs : List X) (n j : ℕ) → j < n → slice_get (take n xs) j
+    ≡ slice_get xs j
 slice_get-take xs zero j within = absurd (omega arith)
 slice_get-take [] (suc n) j within = refl
 slice_get-take (x ∷ xs) (suc n) zero within = refl

@@ -14,7 +14,8 @@ use Rattle.page_store.proofs.WindowLemmas.{begins-behind}
 pub begins-append : (path more : List ℕ) → begins path (path ++ more) ≡ true
 begins-append [] more = refl
 begins-append (x ∷ path) more =
-    let same : nat_eq x x ≡ true = grind (arith, nat_tests) in rw (same, begins-append path more) refl
+    let same : nat_eq x x ≡ true = grind (arith, nat_tests) in
+    rw (same, begins-append path more) refl
 
 -- paths that differ in a step do not begin with each other
 pub begins-other_step : (path a b : List ℕ) (s t : ℕ) → (s ≡ t → ⊥) →
@@ -27,7 +28,8 @@ begins-other_step path a b s t differ =
 pub begins-longer : (path a : List ℕ) (s : ℕ) → begins (path ++ s ∷ a) path ≡ false
 begins-longer [] a s = refl
 begins-longer (x ∷ path) a s =
-    let same : nat_eq x x ≡ true = grind (arith, nat_tests) in rw (same, begins-longer path a s) refl
+    let same : nat_eq x x ≡ true = grind (arith, nat_tests) in
+    rw (same, begins-longer path a s) refl
 
 -- A path goes on from this one by a step above one number and up to another.
 pub record GoesOn (path : List ℕ) (before last : ℕ) (own : List ℕ) : Type 0 where
@@ -68,7 +70,8 @@ module _ {Body : Type 0} where
   -- each row of pages side by side and of what is below them goes on by one of their steps
   pub rows_go_on : (parent : Option ℕ) (path url : List ℕ) (before : ℕ) (f : Forest Body) →
       AreRising before f → AllByRecursion
-      (λ (row : Row Body). GoesOn path before (last_step before f) row.path) (rows_below parent path url f)
+      (λ (row : Row Body). GoesOn path before (last_step before f) row.path)
+      (rows_below parent path url f)
   rows_go_on parent path url before bare rising = tt
   rows_go_on parent path url before (grown i s slug body kids rest) rising =
       let late = rising.0 in
@@ -78,8 +81,10 @@ module _ {Body : Type 0} where
         record { step = s; more = []; is = refl; late = rising.0; early = last },
         All-append _ _ _
             (All-weaker _ _ (λ (row : Row Body) on.
-            GoesOn-below path row.path s before (last_step s rest) 0 (last_step 0 kids) late last on) _ below)
+            GoesOn-below path row.path s before (last_step s rest) 0 (last_step 0 kids) late last on) _
+            below)
             (All-weaker _ _ (λ (row : Row Body) on.
-            GoesOn-wider path s before (last_step s rest) (last_step s rest) row.path (omega arith) (omega arith) on)
+            GoesOn-wider path s before (last_step s rest) (last_step s rest) row.path (omega arith)
+            (omega arith) on)
             _ after),
       )

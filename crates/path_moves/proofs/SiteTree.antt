@@ -20,7 +20,8 @@ StartsAfter before bare = Unit {0}
 StartsAfter before (grown i s slug body kids rest) = before < s
 
 -- what holds of each row's id holds of each page's
-pub AllIds-rows : {Body : Type 0} (P : ℕ → Type 0) (parent : Option ℕ) (path url : List ℕ) (f : Forest Body) →
+pub AllIds-rows : {Body : Type 0} (P : ℕ → Type 0) (parent : Option ℕ) (path url : List ℕ)
+    (f : Forest Body) →
     AllByRecursion (λ (row : Row Body). P row.id) (rows_below parent path url f) → AllIds P f
 AllIds-rows P parent path url bare all = tt
 AllIds-rows P parent path url (grown i s slug body kids rest) all =
@@ -39,7 +40,8 @@ apart_from_rows parent path url (grown i s slug body kids rest) others =
     let parts = EachPair-parts HasOtherId _ _ others.1 in
     let turned = All-turned HasOtherId _ _ parts.2 in
     let between = All-weaker _ (λ (row : Page). Lacks row.id kids)
-    (λ (row : Page) all. AllIds-rows (λ k. k ≡ row.id → ⊥) (Some i) (path ++ s ∷ []) (child_url url slug) kids
+    (λ (row : Page) all. AllIds-rows (λ k. k ≡ row.id →
+    ⊥) (Some i) (path ++ s ∷ []) (child_url url slug) kids
     (All-weaker (λ (other : Page). HasOtherId other row) (λ (other : Page). other.id ≡ row.id → ⊥)
     (λ (other : Page) apart e. apart (sym e)) _ all)) _ turned in (
       (
@@ -53,16 +55,19 @@ apart_from_rows parent path url (grown i s slug body kids rest) others =
 
 -- the first kid's step is a step
 kids_start : (parent : Option ℕ) (path url : List ℕ) (f : Forest Body) →
-    AllByRecursion (λ (row : Page). IsPath row.path) (rows_below parent path url f) → StartsAfter 0 f
+    AllByRecursion (λ (row : Page). IsPath row.path) (rows_below parent path url f) →
+    StartsAfter 0 f
 kids_start parent path url bare paths = tt
 kids_start parent path url (grown i s slug body kids rest) paths =
     let steps = AreSteps-parts path (s ∷ []) paths.0.steps in
     let least = steps.1.0.0 in omega arith
 
 -- a later path below one page ends in a later step
-step_after_from_order : (path : List ℕ) (s t : ℕ) → comes_before (path ++ s ∷ []) (path ++ t ∷ []) ≡ true → s < t
+step_after_from_order : (path : List ℕ) (s t : ℕ) → comes_before (path ++ s ∷ []) (path ++ t ∷ [])
+    ≡ true → s < t
 step_after_from_order path s t before =
-    let order = rw (comes_before-behind path (s ∷ []) (t ∷ [])) at before in grind (arith, nat_tests)
+    let order = rw (comes_before-behind path (s ∷ []) (t ∷ [])) at before in
+    grind (arith, nat_tests)
 
 -- the next sibling's step is above this one's
 next_start : (head : Page) (parent : Option ℕ) (path url : List ℕ) (s : ℕ) (f : Forest Body) →
@@ -82,17 +87,27 @@ rising_from_rows parent path url before (grown i s slug body kids rest) order pa
     let heads = All-parts _ _ _ order.0 in
     let parts = EachPair-parts IsBefore _ _ order.1 in
     let both = All-parts _ _ _ paths.1 in
-    let head : Page = record { id = i; parent = parent; path = path ++ s ∷ []; url = child_url url slug; slug = slug; numchild = kid_count kids; body = body } in (
+    let head : Page = record {
+      id = i;
+      parent = parent;
+      path = path ++ s ∷ [];
+      url = child_url url slug;
+      slug = slug;
+      numchild = kid_count kids;
+      body = body;
+    } in (
       start,
       rising_from_rows (Some i) (path ++ s ∷ []) (child_url url slug) 0 kids parts.0 both.0
           (kids_start (Some i) (path ++ s ∷ []) (child_url url slug) kids both.0),
-      rising_from_rows parent path url s rest parts.1 both.1 (next_start head parent path url s rest refl heads.1),
+      rising_from_rows parent path url s rest parts.1 both.1
+          (next_start head parent path url s rest refl heads.1),
     )
 
 -- the steps of a tree rise where its rows are those of a store
 pub rising_tree : (tree : Forest Body) → ArePages (rows_of tree) → AreRising 0 tree
 rising_tree tree pages =
-    rising_from_rows None [] [] 0 tree pages.in_order pages.paths (kids_start None [] [] tree pages.paths)
+    rising_from_rows None [] [] 0 tree pages.in_order pages.paths
+    (kids_start None [] [] tree pages.paths)
 
 -- and its ids are apart
 pub apart_tree : (tree : Forest Body) → ArePages (rows_of tree) → AreApart tree

@@ -37,7 +37,11 @@ module _ {Body : Type 0} where
   rows_begin parent path url (grown i s slug body kids rest) = (
     (s ∷ [], refl),
     All-append _ _ _
-        (All-weaker _ _ (λ (row : Row Body) on. (s ∷ on.0, sym (append_assoc path (s ∷ []) on.0) ∙ on.1)) _
+        (All-weaker _ _ (λ (row : Row Body) on. (
+          s ∷ on.0,
+          sym (append_assoc path (s ∷ []) on.0)
+              ∙ on.1,
+        )) _
         (rows_begin (Some i) (path ++ s ∷ []) (child_url url slug) kids))
         (rows_begin parent path url rest),
   )
@@ -56,23 +60,28 @@ module _ {Body : Type 0} where
       ) in
       ap (subtree_rows b.top.path) b.rows_are
       ∙ filter_middle (λ (row : Row Body). begins b.top.path row.path) b.front
-      (b.top ∷ rows_below (Some id) b.top.path b.top.url (kids_of id f)) b.behind b.front_out inside b.behind_out
+      (b.top ∷ rows_below (Some id) b.top.path b.top.url (kids_of id f)) b.behind b.front_out
+      inside b.behind_out
 
 -- the rows of a range are those that begin with its page's path
 pub range_rows : (pages : List Page) (row : Page) (place n : ℕ) → IsRange pages row place n →
     subtree_rows row.path pages ≡ take n (drop place pages)
 range_rows pages row place n range =
     filter_window (λ (other : Page). begins row.path other.path) pages place n
-    (All-weaker _ _ (λ (other : Page) out. fails_from _ (λ e. out (BeginsWith-begins row.path other.path e))) _ range.before)
+    (All-weaker _ _ (λ (other : Page) out. fails_from _
+    (λ e. out (BeginsWith-begins row.path other.path e))) _ range.before)
     (All-weaker _ _ (λ (other : Page) on. begins-BeginsWith row.path other.path on) _ range.inside)
-    (All-weaker _ _ (λ (other : Page) out. fails_from _ (λ e. out (BeginsWith-begins row.path other.path e))) _ range.after)
+    (All-weaker _ _ (λ (other : Page) out. fails_from _
+    (λ e. out (BeginsWith-begins row.path other.path e))) _ range.after)
 
 -- a range has a row
 pub range_some : (pages : List Page) (row : Page) (place n : ℕ) → IsRange pages row place n → 0 < n
 range_some pages row place zero range =
     let none : place + 0 ≡ place = omega arith in
-    let after = subst (λ m. AllByRecursion (λ (other : Page). BeginsWith row.path other.path → ⊥) (drop m pages)) none range.after in
-    let here = subst (λ rows. AllByRecursion (λ (other : Page). BeginsWith row.path other.path → ⊥) rows)
+    let after = subst (λ m. AllByRecursion (λ (other : Page). BeginsWith row.path other.path →
+    ⊥) (drop m pages)) none range.after in
+    let here = subst (λ rows. AllByRecursion (λ (other : Page). BeginsWith row.path other.path →
+    ⊥) rows)
     (drop_at_place place pages row range.page) after in
     absurd (here.0 (BeginsWith-begins row.path row.path (begins-self row.path)))
 range_some pages row place (suc n) range = omega arith
@@ -93,16 +102,19 @@ range_last pages row place n range =
 pub found_at_place : (pages : List Page) (place : ℕ) (row : Page) → ArePages pages →
     slice_get pages place ≡ Some row → row_with row.id pages ≡ Some row
 found_at_place pages place row are at =
-    All-at (λ (other : Page). row_with other.id pages ≡ Some other) place pages row (found_by_own_id pages are.own_ids) at
+    All-at (λ (other : Page). row_with other.id pages ≡ Some other) place pages row
+    (found_by_own_id pages are.own_ids) at
 
 -- the path of the last page of a range, found by its id
-pub last_path_is : (pages : List Page) (row : Page) (place n id : ℕ) → ArePages pages → IsRange pages row place n →
+pub last_path_is : (pages : List Page) (row : Page) (place n id : ℕ) → ArePages pages →
+    IsRange pages row place n →
     option_map (λ (other : Page). other.id) (slice_get pages (place + n - 1)) ≡ Some id →
     option_map (λ (other : Page). other.path) (row_with id pages)
     ≡ option_map (λ (other : Page). other.path) (last_of (subtree_rows row.path pages))
 last_path_is pages row place n id are range found =
     let last = range_last pages row place n range in
-    by (slice_get pages (place + n - 1)) refl found ∙ ap (option_map (λ (other : Page). other.path)) (sym last)
+    by (slice_get pages (place + n - 1)) refl found
+    ∙ ap (option_map (λ (other : Page). other.path)) (sym last)
   where
     by : (o : Option Page) → slice_get pages (place + n - 1) ≡ o →
         option_map (λ (other : Page). other.id) o ≡ Some id →
@@ -121,12 +133,14 @@ pub found_block : (tree : Forest Body) (id : ℕ) (row : Page) → ArePages (row
 found_block tree id row are found =
     let there : has_page id tree ≡ true = has_page-rows id None [] [] tree ∙ ap is_some found in
     let b = block_of id 0 None [] [] tree (rising_tree tree are) (apart_tree tree are) there in
-    let all = subst (λ rows. AllByRecursion (λ (other : Page). row_with other.id (rows_of tree) ≡ Some other) rows)
+    let all = subst (λ rows. AllByRecursion (λ (other : Page). row_with other.id (rows_of tree)
+    ≡ Some other) rows)
     b.rows_are (found_by_own_id (rows_of tree) are.own_ids) in
     let parts = All-parts (λ (other : Page). row_with other.id (rows_of tree) ≡ Some other) b.front
     (b.top ∷ (rows_below (Some id) b.top.path b.top.url (kids_of id tree) ++ b.behind)) all in
     let own = parts.1.0 in
-    let one : row_with id (rows_of tree) ≡ Some b.top = ap (λ n. row_with n (rows_of tree)) (sym b.id_is) ∙ own in
+    let one : row_with id (rows_of tree)
+    ≡ Some b.top = ap (λ n. row_with n (rows_of tree)) (sym b.id_is) ∙ own in
     (b, (let both : Some row ≡ Some b.top = sym found ∙ one in cc))
 
 -- the step behind the last kid, read off the last row of the subtree
@@ -140,9 +154,12 @@ step_after-last {B = B} id top last kids is =
           let past = slice_get_past top.path (length top.path) (omega arith) in
           rw (← same, past, none.1) refl)
       | inr found ↦ (let one = last_of-push (top ∷ found.front) found.row in
-          let same : found.row ≡ last = (let both : Some found.row ≡ Some last = sym one ∙ (ap (λ rows. last_of (top ∷ rows)) (sym found.is) ∙ is) in cc) in
+          let same : found.row ≡ last =
+          (let both : Some found.row ≡ Some last = sym one
+          ∙ (ap (λ rows. last_of (top ∷ rows)) (sym found.is) ∙ is) in cc) in
           let path_is : last.path ≡ top.path ++ last_step 0 kids ∷ found.more =
-          ap (λ (r : Row B). r.path) (sym same) ∙ (found.path_is ∙ append_assoc top.path (last_step 0 kids ∷ []) found.more) in
+          ap (λ (r : Row B). r.path) (sym same)
+          ∙ (found.path_is ∙ append_assoc top.path (last_step 0 kids ∷ []) found.more) in
           rw (path_is, slice_get-append top.path found.more (last_step 0 kids)) refl)
     ]
 
@@ -155,8 +172,11 @@ appended_is tree parent row last are found end =
     let block = found_block tree parent row are found in
     let b = block.0 in
     let rows = block_rows parent 0 None [] [] tree b in
-    let last_is : last_of (b.top ∷ rows_below (Some parent) b.top.path b.top.url (kids_of parent tree)) ≡ Some last =
-    ap last_of (sym rows) ∙ (ap (λ (r : Page). last_of (subtree_rows r.path (rows_of tree))) (sym block.1) ∙ end) in
+    let last_is : last_of
+    (b.top ∷ rows_below (Some parent) b.top.path b.top.url (kids_of parent tree)) ≡ Some last =
+    ap last_of (sym rows)
+    ∙ (ap (λ (r : Page). last_of (subtree_rows r.path (rows_of tree))) (sym block.1)
+    ∙ end) in
     let step = step_after-last parent b.top last (kids_of parent tree) last_is in
     let path : path_of parent tree ≡ b.top.path = b.walk_is ∙ sym b.path_is in
     rw (block.1, step, path) refl

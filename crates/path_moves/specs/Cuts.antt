@@ -1,6 +1,7 @@
 -- Rows that are cut out of the rows of a tree, and rows that change their beginning.
-use Rattle.std.specs.Prelude.{ℕ, suc, ◌+◌, ◌-◌, Bool, true, false, not, List, [], ◌∷◌, ◌++◌, Option, Some, map, filter, take, drop, length, if◌then◌else◌}
+use Rattle.std.specs.Prelude.{ℕ, suc, ◌==◌, ◌+◌, ◌-◌, Bool, true, false, not, List, [], ◌∷◌, ◌++◌, Option, Some, map, filter, take, drop, length, if◌then◌else◌}
 use Prim.Native.Nat.{zero}
+use Rattle.page_tree.specs.Tree.{Forest, bare, grown}
 use Rattle.page_tree.specs.Rows.{Row, is_parent}
 use Rattle.page_store.specs.Search.{begins, leading}
 use Rattle.step_path.specs.Path.{relabelled}
@@ -59,3 +60,22 @@ raised_path (suc depth) (step ∷ path) = step ∷ raised_path depth path
 -- the row with the step of its path at this depth one higher
 abbrev pub raise_row : {Body : Type 0} → ℕ → Row Body → Row Body
 raise_row depth row = record row { path = raised_path depth row.path }
+
+-- The rows with others put in at a place among those that begin with this path: each row of that
+-- page's subtree from the place on has the step below the path one higher.
+abbrev pub put_from : {Body : Type 0} → List ℕ → ℕ → List (Row Body) → List (Row Body) →
+    List (Row Body)
+put_from path place new rows =
+    take place rows ++ (new
+    ++ (map (raise_row (length path)) (drop place (take (end_of path rows) rows))
+    ++ drop (end_of path rows) rows))
+
+-- the place of the first row of the page with the id
+abbrev pub place_of : {Body : Type 0} → ℕ → List (Row Body) → ℕ
+place_of id rows = leading (λ row. not (row.id == id)) rows
+
+-- whether a page is one of these side by side
+abbrev pub is_sibling : {Body : Type 0} → ℕ → Forest Body → Bool
+is_sibling sibling bare = false
+is_sibling sibling (grown i s slug body kids rest) =
+    if i == sibling then true else is_sibling sibling rest

@@ -1,12 +1,12 @@
 -- What a cut and a graft are on the rows of a tree, each proved in src/laws.rt: the rows of a page
 -- and of all below it are taken out and put in behind those of its new parent, with the beginnings
 -- of their paths and URLs replaced.
-use Rattle.std.specs.Prelude.{◌≡◌, ℕ, true, List, [], ◌∷◌, ◌++◌, Some}
-use Rattle.page_tree.specs.Tree.{Forest, bare, grown, End, AreRising, HasDistinctIds, kids_of, node_of, placed, step_needed, without, graft, moved}
+use Rattle.std.specs.Prelude.{◌≡◌, ℕ, ◌+◌, true, List, [], ◌∷◌, ◌++◌, Some}
+use Rattle.page_tree.specs.Tree.{Forest, bare, grown, First, Before, End, AreRising, HasDistinctIds, kids_of, node_of, placed, step_needed, without, graft, moved}
 use Rattle.page_tree.specs.Rows.{Row, child_url, row_with, rows_below, rows_of, raise_count}
 use Rattle.site_types.specs.declared.body.Body.{Body}
 use Rattle.path_moves.specs.Subtree.{subtree_rows}
-use Rattle.path_moves.specs.Cuts.{cut_rows, moved_rows, put_behind}
+use Rattle.path_moves.specs.Cuts.{cut_rows, moved_rows, put_behind, put_from, place_of, is_sibling}
 
 -- a page of a store
 abbrev pub Page : Type 0
@@ -17,7 +17,8 @@ pub record IsTree (tree : Forest Body) : Type 0 where
   pub rising : AreRising 0 tree
   pub distinct : HasDistinctIds tree
 
--- what a cut leaves are the rows that do not begin with the page's path, one child less at its parent
+-- what a cut leaves are the rows that do not begin with the page's path, one child less at its
+-- parent
 abbrev pub CutTakesRowsOut : Type 0
 CutTakesRowsOut =
     (id : ℕ) (tree : Forest Body) (top : Page) → IsTree tree →
@@ -36,15 +37,18 @@ GraftPutsRowsIn =
     (placed (grown id step slug body kids bare) (step_needed End (kids_of parent tree)) bare))
     (raise_count (Some parent) (rows_of tree))
 
--- the rows of a page with all below it, at another place, are its rows with their beginnings replaced
+-- the rows of a page with all below it, at another place, are its rows with their beginnings
+-- replaced
 abbrev pub RowsAreRelabelled : Type 0
 RowsAreRelabelled =
     (id parent at : ℕ) (path url : List ℕ) (tree : Forest Body) (top : Page) → IsTree tree →
     row_with id (rows_of tree) ≡ Some top →
     rows_below (Some parent) path url (placed (node_of id tree) at bare)
-    ≡ moved_rows parent (path ++ at ∷ []) (child_url url top.slug) (subtree_rows top.path (rows_of tree))
+    ≡ moved_rows parent (path ++ at ∷ []) (child_url url top.slug)
+    (subtree_rows top.path (rows_of tree))
 
--- A move behind the last kid of a page that is left after the cut: the page's rows are taken out and
+-- A move behind the last kid of a page that is left after the cut: the page's rows are taken out
+-- and
 -- put in behind those of the new parent, with the beginnings of their paths and URLs replaced.
 abbrev pub MoveRelabelsRows : Type 0
 MoveRelabelsRows =
@@ -56,3 +60,30 @@ MoveRelabelsRows =
     (moved_rows parent (above.path ++ step_needed End (kids_of parent (without id tree)) ∷ [])
     (child_url above.url top.slug) (subtree_rows top.path (rows_of tree)))
     (raise_count (Some parent) (cut_rows top (rows_of tree)))
+
+-- A graft at the first place: the rows go right behind the parent's own, and each kid's step, in
+-- its
+-- row and in those of all below it, is one higher.
+abbrev pub GraftAtFirstRaises : Type 0
+GraftAtFirstRaises =
+    (parent id step : ℕ) (slug : List ℕ) (body : Body) (kids tree : Forest Body) (top : Page) →
+    IsTree tree → row_with parent (rows_of tree) ≡ Some top →
+    rows_of (graft parent First (grown id step slug body kids bare) tree)
+    ≡ put_from top.path (place_of parent (rows_of tree) + 1)
+    (rows_below (Some parent) top.path top.url (placed (grown id step slug body kids bare) 1 bare))
+    (raise_count (Some parent) (rows_of tree))
+
+-- A graft before a kid: the rows go before that kid's, with its step, and the step of that kid
+-- and of
+-- each later one, in their rows and in those of all below them, is one higher.
+abbrev pub GraftBeforeRaises : Type 0
+GraftBeforeRaises =
+    (parent sibling id step : ℕ) (slug : List ℕ) (body : Body) (kids tree : Forest Body)
+    (top kid : Page) →
+    IsTree tree → row_with parent (rows_of tree) ≡ Some top → row_with sibling (rows_of tree)
+    ≡ Some kid →
+    is_sibling sibling (kids_of parent tree) ≡ true → (at : ℕ) → kid.path ≡ top.path ++ at ∷ [] →
+    rows_of (graft parent (Before sibling) (grown id step slug body kids bare) tree)
+    ≡ put_from top.path (place_of sibling (rows_of tree))
+    (rows_below (Some parent) top.path top.url (placed (grown id step slug body kids bare) at bare))
+    (raise_count (Some parent) (rows_of tree))

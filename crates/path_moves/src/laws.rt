@@ -1,5 +1,5 @@
 //! What cuts and grafts are on rows. Each is a function that does nothing: its contract is the law.
-ghost use Rattle.path_moves.specs.Laws.{CutTakesRowsOut, GraftPutsRowsIn, RowsAreRelabelled, MoveRelabelsRows};
+ghost use Rattle.path_moves.specs.Laws.{CutTakesRowsOut, GraftPutsRowsIn, RowsAreRelabelled, MoveRelabelsRows, GraftAtFirstRaises, GraftBeforeRaises};
 
 /// A cut takes out the rows that begin with the page's path, and lowers its parent's child count.
 pub fn cut_takes_rows_out()
@@ -19,4 +19,14 @@ pub fn rows_are_relabelled()
 /// A move behind the last kid of a page takes the rows out and puts them in with other beginnings.
 pub fn move_relabels_rows()
     ensures { MoveRelabelsRows }
+{}
+
+/// A graft at the first place raises the step of each kid, in its row and in those of all below it.
+pub fn graft_at_first_raises()
+    ensures { GraftAtFirstRaises }
+{}
+
+/// A graft before a kid raises the step of that kid and of each later one.
+pub fn graft_before_raises()
+    ensures { GraftBeforeRaises }
 {}

@@ -10,6 +10,7 @@ unreachable-requires c =
 
 pub loop-done-preserved : goal.loop-done-preserved
 loop-done-preserved c =
-    ids_more c.args.rows.now.pages c.args.place c.loop-done.done c.in-Some.id c.loop-done.ids.items _
+    ids_more c.args.rows.now.pages c.args.place c.loop-done.done c.in-Some.id c.loop-done.ids.items
+    _
     c.loop-done.invariant c.in-Some.ensures
     (c.in_ok-push.ensures.items ∙ ap (λ id. c.loop-done.ids.items ++ id ∷ []) c.get.ensures.value)

@@ -1,0 +1,3 @@
+pub mod TreeUrls
+pub mod UpLemmas
+pub mod Descents

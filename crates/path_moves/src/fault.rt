@@ -1,5 +1,4 @@
 //! Why a page cannot go where it is asked to go.
-use site_types::NoMemory;
 
 /// Why a page cannot go where it is asked to go.
 #[derive(Clone, Copy, Debug, PartialEq, Eq)]
@@ -12,10 +11,4 @@ pub enum PathFault {
     TooDeep,
     /// Memory ran out.
     Memory,
-}
-
-impl From<NoMemory> for PathFault {
-    fn from(_: NoMemory) -> Self {
-        PathFault::Memory
-    }
 }

@@ -1,0 +1,5 @@
+pub mod Places
+pub mod Limits
+pub mod Renames
+pub mod Shape
+pub mod Changes

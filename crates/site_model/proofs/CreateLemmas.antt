@@ -37,7 +37,7 @@ other_id : (id new : ℕ) → (id ≡ new → ⊥) → nat_eq id new ≡ false
 other_id id new h = grind (arith, nat_tests)
 
 -- what is in two results that are the same
-same_ok : {X E : Type 0} (x y : X) → ◌≡◌ {A = Result X E} (Ok x) (Ok y) → x ≡ y
+pub same_ok : {X E : Type 0} (x y : X) → ◌≡◌ {A = Result X E} (Ok x) (Ok y) → x ≡ y
 same_ok x y is = cc
 
 module _ {Body : Type 0} where
@@ -201,7 +201,7 @@ module _ {Body : Type 0} where
           ) refl
 
 -- what an accepted creation is: no rule refused it, and this is the world after it
-accepted_creation : (refusal : Option Refusal) (part after : TreePart) (effect : Effect Reply)
+pub accepted_creation : (refusal : Option Refusal) (part after : TreePart) (effect : Effect Reply)
     (reply : Reply) →
     unless_refused refusal part reply ≡ Ok (after, effect) →
     (part ≡ after) × (effect ≡ record { reply = reply; opened = None; shut = [] })
@@ -242,7 +242,7 @@ pub creation_keeps_the_rest : (before after : TreePart) (effect : Effect Reply)
     (HasDistinctIds before.tree → has_page before.next_page before.tree ≡ false → other_rows
     before.next_page (rows_of after.tree) ≡ raise_count (Some parent) (rows_of before.tree))
 creation_keeps_the_rest before after effect now caller parent slug content is =
-    let made = accepted_creation (create_refusal before parent slug)
+    let made = accepted_creation (create_refusal before.tree (created before now caller parent slug content).tree parent slug)
     (created before now caller parent slug content) after effect
     (page_reply before.next_page (created before now caller parent slug content).tree) is in (
       subst (KeepsLists before) made.0 (created_keeps_lists before now caller parent slug content),

@@ -1,34 +1,16 @@
 -- The command that creates a page: its refusals, in the order of their rules, and its effect.
-use Rattle.std.specs.Prelude.{ℕ, ◌+◌, false, List, [], ◌∷◌, ◌++◌, Option, Some, None, Result, Ok, Err, if◌then◌else◌}
-use Rattle.std.specs.Option.{option_map}
-use Rattle.page_tree.specs.Tree.{Forest, bare, grown, End, has_page, kids_of, kid_with_slug, graft}
+use Rattle.std.specs.Prelude.{ℕ, ◌+◌, false, List, [], ◌∷◌, ◌++◌, Option, Some, None, Result, Ok, Err}
+use Rattle.page_tree.specs.Tree.{Forest, bare, grown, End, graft}
 use Rattle.page_tree.specs.Walk.{path_of, url_of}
 use Rattle.step_path.specs.Path.{path_text}
 use Rattle.site_types.specs.Content.{ContentValue}
 use Rattle.site_types.specs.declared.body.Body.{Body}
 use Rattle.site_types.specs.declared.revision.Revision.{Revision}
 use Rattle.site_types.specs.declared.refusal.Refusal.{Refusal}
-use Rattle.site_types.specs.declared.refusal.Refusal.TheVariants.{NoPage, SlugTaken}
 use Rattle.site_types.specs.declared.reply.Reply.{Reply}
 use Rattle.site_types.specs.declared.reply.Reply.TheVariants.{Page}
+use Rattle.site_model.specs.Rules.{first_of, no_page, slug_taken, steps_full, too_deep, url_too_long}
 use Rattle.site_model.specs.World.{TreePart, Effect, time_at}
-
--- refused where the id names no page
-abbrev pub no_page : TreePart → ℕ → Option Refusal
-no_page part id = if has_page id part.tree then None else Some (NoPage id)
-
--- refused where another page below the parent has the slug
-abbrev pub slug_taken : TreePart → ℕ → List ℕ → Option Refusal
-slug_taken part parent slug = option_map SlugTaken (kid_with_slug slug (kids_of parent part.tree))
-
--- the first refusal of two rules that are tried one after the other
-abbrev pub or_then : Option Refusal → Option Refusal → Option Refusal
-or_then (Some refusal) later = Some refusal
-or_then None later = later
-
--- why a creation is refused: the parent is there, and then no page below it has the slug
-abbrev pub create_refusal : TreePart → ℕ → List ℕ → Option Refusal
-create_refusal part parent slug = or_then (no_page part parent) (slug_taken part parent slug)
 
 -- What is kept of a page that was just made: it is its maker's, not live, and shows its one
 -- revision, the latest.
@@ -84,7 +66,18 @@ created part now caller parent slug content =
           (time_at part now) content ∷ [];
     }
 
--- what becomes of a creation that no rule refuses, or the refusal
+-- why a creation is refused, where the tree would then be this one
+abbrev pub create_refusal : Forest Body → Forest Body → ℕ → List ℕ → Option Refusal
+create_refusal tree after parent slug =
+    first_of
+    (no_page tree parent
+    ∷ slug_taken tree parent slug
+    ∷ steps_full tree parent End
+    ∷ too_deep after
+    ∷ url_too_long after
+    ∷ [])
+
+-- what becomes of a command that no rule refuses, or the refusal
 abbrev pub unless_refused : Option Refusal → TreePart → Reply →
     Result (TreePart × Effect Reply) Refusal
 unless_refused (Some refusal) part reply = Err refusal
@@ -95,4 +88,5 @@ abbrev pub create : TreePart → ℕ → ℕ → ℕ → List ℕ → ContentVal
     Result (TreePart × Effect Reply) Refusal
 create part now caller parent slug content =
     let after = created part now caller parent slug content in
-    unless_refused (create_refusal part parent slug) after (page_reply part.next_page after.tree)
+    unless_refused (create_refusal part.tree after.tree parent slug) after
+    (page_reply part.next_page after.tree)

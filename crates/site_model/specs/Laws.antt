@@ -1,4 +1,5 @@
--- The law of creations: what a creation does not name stays as it was. It is proved in src/laws.rt.
+-- The laws of the world, each proved in src/laws.rt: what a creation does not name stays as it was,
+-- and the world of a new site is sound and stays so.
 use Rattle.std.specs.Prelude.{◌≡◌, ℕ, ◌==◌, false, not, filter, List, [], ◌∷◌, ◌++◌, None, Some, Ok, max}
 use Rattle.page_tree.specs.Tree.{HasDistinctIds, has_page}
 use Rattle.page_tree.specs.Rows.{Row, rows_of, raise_count}
@@ -6,6 +7,15 @@ use Rattle.site_types.specs.Content.{ContentValue}
 use Rattle.site_types.specs.declared.reply.Reply.{Reply}
 use Rattle.site_model.specs.World.{TreePart, Effect}
 use Rattle.site_model.specs.Create.{create, plain_revision}
+use Rattle.site_ids.specs.Slug.{IsSlug}
+use Rattle.site_types.specs.declared.position.Position.{Position}
+use Rattle.site_model.specs.Start.{new_part}
+use Rattle.site_model.specs.Moves.{move}
+use Rattle.site_model.specs.Delete.{delete}
+use Rattle.site_model.specs.Slugs.{set_slug}
+use Rattle.site_types.specs.declared.command.Command.{Command}
+use Rattle.site_model.specs.Step.{tree_step}
+use Rattle.site_model.specs.Sound.{IsSound, HasIdsLeft, FitsPart}
 
 -- the lists beside the tree, but for the revisions, and the numbers that no creation gives out
 pub record KeepsLists (before after : TreePart) : Type 0 where
@@ -40,3 +50,42 @@ CreationKeepsTheRest =
     × (HasDistinctIds before.tree → has_page before.next_page before.tree ≡ false →
     other_rows before.next_page (rows_of after.tree) ≡ raise_count (Some parent)
     (rows_of before.tree))
+
+-- The world of a new site is sound.
+abbrev pub NewPartIsSound : Type 0
+NewPartIsSound = (digest : List ℕ) → IsSound (new_part digest)
+
+-- A creation with a slug, where ids are left, keeps a world sound.
+abbrev pub CreationKeepsSound : Type 0
+CreationKeepsSound =
+    (before after : TreePart) (effect : Effect Reply) (now caller parent : ℕ) (slug : List ℕ)
+    (content : ContentValue) →
+    IsSound before → HasIdsLeft before → IsSlug slug →
+    create before now caller parent slug content ≡ Ok (after, effect) → IsSound after
+
+-- Another slug keeps a world sound.
+abbrev pub SlugKeepsSound : Type 0
+SlugKeepsSound =
+    (before after : TreePart) (effect : Effect Reply) (now page : ℕ) (slug : List ℕ) →
+    IsSound before → IsSlug slug → set_slug before now page slug ≡ Ok (after, effect) →
+    IsSound after
+
+-- A deletion keeps a world sound.
+abbrev pub DeletionKeepsSound : Type 0
+DeletionKeepsSound =
+    (before after : TreePart) (effect : Effect Reply) (now page : ℕ) →
+    IsSound before → delete before now page ≡ Ok (after, effect) → IsSound after
+
+-- A move keeps a world sound.
+abbrev pub MoveKeepsSound : Type 0
+MoveKeepsSound =
+    (before after : TreePart) (effect : Effect Reply) (now page target : ℕ)
+    (position : Position) →
+    IsSound before → move before now page target position ≡ Ok (after, effect) → IsSound after
+
+-- A step that is accepted keeps a world sound, where its command fits.
+abbrev pub StepKeepsSound : Type 0
+StepKeepsSound =
+    (before after : TreePart) (effect : Effect Reply) (now caller : ℕ) (command : Command) →
+    IsSound before → FitsPart before command →
+    tree_step before now caller command ≡ Ok (after, effect) → IsSound after

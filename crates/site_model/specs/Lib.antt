@@ -1,5 +1,10 @@
 pub mod World
 pub mod Start
+pub mod Rules
 pub mod Create
+pub mod Moves
+pub mod Delete
+pub mod Slugs
 pub mod Step
+pub mod Sound
 pub mod Laws

@@ -3,18 +3,24 @@
 use Rattle.std.specs.Prelude.{ℕ, not, ◌==◌, List, [], ◌∷◌, ◌++◌, filter, Option, Some, None, Result, Ok, Err}
 use Rattle.std.specs.List.{list_any}
 use Rattle.site_types.specs.declared.command.Command.{Command}
-use Rattle.site_types.specs.declared.command.Command.TheVariants.{Create}
+use Rattle.site_types.specs.declared.command.Command.TheVariants.{Create, Move, Delete, SetSlug}
 use Rattle.site_types.specs.declared.entry.Entry.{Entry}
 use Rattle.site_types.specs.declared.refusal.Refusal.{Refusal}
 use Rattle.site_types.specs.declared.refusal.Refusal.TheVariants.{NothingNew}
 use Rattle.site_types.specs.declared.reply.Reply.{Reply}
 use Rattle.site_model.specs.World.{World, TreePart, DeskText, Effect}
 use Rattle.site_model.specs.Create.{create}
+use Rattle.site_model.specs.Moves.{move}
+use Rattle.site_model.specs.Delete.{delete}
+use Rattle.site_model.specs.Slugs.{set_slug}
 
 -- The step of the tree part. A command whose group is not built has no effect: no request can send
 -- one.
 unfoldable pub tree_step : TreePart → ℕ → ℕ → Command → Result (TreePart × Effect Reply) Refusal
 tree_step part now caller (Create parent slug content) = create part now caller parent slug content
+tree_step part now caller (Move page target position) = move part now page target position
+tree_step part now caller (Delete page) = delete part now page
+tree_step part now caller (SetSlug page slug) = set_slug part now page slug
 tree_step part now caller _ = Err NothingNew
 
 -- the desks but those of these pages

@@ -1,19 +1,42 @@
 -- The definition of calls at worked values.
-use Rattle.std.proofs.Common.{◌≡◌, ℕ, List, [], ◌∷◌, Some, None, Ok, Err, refl, codes, false}
+use Rattle.std.proofs.Common.{◌≡◌, ℕ, List, [], Some, None, Ok, Err, refl, codes, false}
 use Rattle.http_model.specs.Requests.{Request}
 use Rattle.http_model.specs.declared.method.Method.{Method}
 use Rattle.http_model.specs.declared.method.Method.TheVariants.{Get, Post, Other}
 use Rattle.http_model.specs.declared.method.Allow.TheVariants as allows
 use Rattle.serde_json.specs.Data.{Data, unsigned, number, string, array, object, no_items, no_members, member}
-use Rattle.site_types.specs.declared.command.Command.TheVariants.{Create}
-use Rattle.wire_model.specs.Routes.{route_of, creation, card_named, unbuilt, nowhere, public_page, id_written, closed_path, creation_in, call_of}
+use Rattle.site_types.specs.declared.command.Command.TheVariants.{Create, Move, Delete, SetSlug}
+use Rattle.site_types.specs.declared.position.Position.TheVariants.{FirstChild, LastChild, FirstSibling, Left, Right, LastSibling}
+use Rattle.wire_model.specs.Forms.{position_of, creation_in, move_in, deletion_in, slug_change_in}
+use Rattle.wire_model.specs.Routes.{route_of, command, card_named, unbuilt, nowhere, public_page, id_written, closed_path, call_of}
+use Rattle.wire_model.specs.declared.form.CommandForm.TheVariants as forms
 use Rattle.wire_model.specs.declared.call.Call.TheVariants.{Page, Public}
 use Rattle.wire_model.specs.declared.call.RouteFault.TheVariants.{NotFound, NotBuilt, Method as WrongMethod, Form}
 
 -- the route that creates pages
-pages_create : route_of (codes "/api/pages") ≡ creation
+pages_create : route_of (codes "/api/pages") ≡ command forms.Create
 unfolding route_of
 pages_create = refl
+
+-- the route of moves
+move_moves : route_of (codes "/api/move") ≡ command forms.Move
+unfolding route_of
+move_moves = refl
+
+-- the route of deletions
+delete_deletes : route_of (codes "/api/delete") ≡ command forms.Delete
+unfolding route_of
+delete_deletes = refl
+
+-- the route of slugs
+slug_sets_slugs : route_of (codes "/api/slug") ≡ command forms.SetSlug
+unfolding route_of
+slug_sets_slugs = refl
+
+-- nothing stands behind the name of a form's route
+behind_a_name : route_of (codes "/api/move/") ≡ nowhere
+unfolding route_of
+behind_a_name = refl
 
 -- a part behind `/api/pages/` is a card's, whatever it is
 a_part_is_a_card : route_of (codes "/api/pages/x") ≡ card_named (codes "x")
@@ -107,6 +130,84 @@ a_creation = refl
 no_slug : creation_in (creation_object (string (codes "a b"))) ≡ None
 no_slug = refl
 
+-- the six positions by their texts
+first_child : position_of (string (codes "first-child")) ≡ Some FirstChild
+first_child = refl
+
+-- behind the kids
+last_child : position_of (string (codes "last-child")) ≡ Some LastChild
+last_child = refl
+
+-- before the siblings
+first_sibling : position_of (string (codes "first-sibling")) ≡ Some FirstSibling
+first_sibling = refl
+
+-- before the target
+left : position_of (string (codes "left")) ≡ Some Left
+left = refl
+
+-- behind the target
+right : position_of (string (codes "right")) ≡ Some Right
+right = refl
+
+-- behind the siblings
+last_sibling : position_of (string (codes "last-sibling")) ≡ Some LastSibling
+last_sibling = refl
+
+-- no other text is a position, not even in other letters
+other_letters : position_of (string (codes "Left")) ≡ None
+other_letters = refl
+
+-- a number is no position
+a_number_is_none : position_of (number (unsigned 1)) ≡ None
+a_number_is_none = refl
+
+-- {"page":3,"position":..,"target":7} with this position
+abbrev move_object : Data → Data
+move_object position =
+    object
+    (member (codes "page") (number (unsigned 3))
+    (member (codes "position") position
+    (member (codes "target") (number (unsigned 7)) no_members)))
+
+-- page 3 is moved before page 7
+a_move : move_in (move_object (string (codes "left"))) ≡ Some (Move 3 7 Left)
+a_move = refl
+
+-- no position
+no_position : move_in (move_object (string (codes "before"))) ≡ None
+no_position = refl
+
+-- {"page":..} with this id
+abbrev page_object : Data → Data
+page_object id = object (member (codes "page") id no_members)
+
+-- page 3 is deleted
+a_deletion : deletion_in (page_object (number (unsigned 3))) ≡ Some (Delete 3)
+a_deletion = refl
+
+-- no page has the id 0
+no_deletion : deletion_in (page_object (number (unsigned 0))) ≡ None
+no_deletion = refl
+
+-- a member too many
+one_too_many : deletion_in (move_object (string (codes "left"))) ≡ None
+one_too_many = refl
+
+-- {"page":3,"slug":..} with this slug
+abbrev slug_object : Data → Data
+slug_object slug =
+    object (member (codes "page") (number (unsigned 3)) (member (codes "slug") slug no_members))
+
+-- page 3 gets the slug home
+a_slug_change : slug_change_in (slug_object (string (codes "home")))
+    ≡ Some (SetSlug 3 (codes "home"))
+a_slug_change = refl
+
+-- a slug with a slash is none
+a_slash : slug_change_in (slug_object (string (codes "a/b"))) ≡ None
+a_slash = refl
+
 -- a request of this method and path, with an empty body
 abbrev bare_request : Method → List ℕ → Request
 bare_request method path =
@@ -123,7 +224,7 @@ unfolding call_of route_of
 an_unknown_path = refl
 
 -- not built
-not_built : call_of (bare_request Other (codes "/api/move")) ≡ Err NotBuilt
+not_built : call_of (bare_request Other (codes "/api/alias")) ≡ Err NotBuilt
 unfolding call_of route_of
 not_built = refl
 
@@ -131,6 +232,11 @@ not_built = refl
 the_wrong_method : call_of (bare_request Post (codes "/api/pages/0")) ≡ Err (WrongMethod allows.Get)
 unfolding call_of route_of
 the_wrong_method = refl
+
+-- the wrong method for a move
+no_move_by_get : call_of (bare_request Get (codes "/api/move")) ≡ Err (WrongMethod allows.Post)
+unfolding call_of route_of
+no_move_by_get = refl
 
 -- no form
 no_form : call_of (bare_request Get (codes "/api/pages/0")) ≡ Err Form

@@ -9,7 +9,9 @@ use Rattle.site_types.specs.declared.command.Command.{Command}
 use Rattle.block_content.specs.Reads.{Reads}
 use Rattle.block_content.specs.declared.fault.ContentFault.{ContentFault}
 use Rattle.block_content.specs.declared.fault.ContentFault.TheVariants.{Bad, Memory}
-use Rattle.wire_model.specs.Routes.{Route, data_of, text_of_body, closed_path, creation_asked, route_of, call_on, call_of}
+use Rattle.wire_model.specs.Routes.{Route, closed_path, route_of, call_on, call_of}
+use Rattle.wire_model.specs.Forms.{data_of, text_of_body, command_asked}
+use Rattle.wire_model.specs.declared.form.CommandForm.{CommandForm}
 use Rattle.wire_model.specs.declared.call.Call.{Call}
 use Rattle.wire_model.specs.declared.call.RouteFault.{RouteFault}
 use Rattle.api_routes.specs.Calling.{ends_with_slash, Answers, MayWant}
@@ -53,12 +55,13 @@ last-decides (b ∷ c ∷ path) some =
     let next : length (b ∷ c ∷ path) - 1 ≡ suc (length (c ∷ path) - 1) = omega arith in
     ap (λ k. get_or (b ∷ c ∷ path) k 0 == 47) next ∙ last-decides (c ∷ path) (omega arith)
 
--- where there is no JSON, no creation is asked for
-pub fault-read : (fault : ContentFault) (body : List ℕ) → (fault ≡ Bad → data_of body ≡ None) →
-    Reads {A = Command} (Err fault) (creation_asked body)
-unfolding creation_asked
-fault-read Bad body none = rw (none refl) refl
-fault-read Memory body none = tt
+-- where there is no JSON, no command is asked for
+pub fault-read : (fault : ContentFault) (form : CommandForm) (body : List ℕ) →
+    (fault ≡ Bad → data_of body ≡ None) →
+    Reads {A = Command} (Err fault) (command_asked form body)
+unfolding command_asked
+fault-read Bad form body none = rw (none refl) refl
+fault-read Memory form body none = tt
 
 -- an answer on the route of a request is the answer to it
 pub asked-on : (request : Request) (route : Route) (result : Result Call RouteFault) →

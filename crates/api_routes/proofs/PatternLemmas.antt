@@ -10,6 +10,7 @@ use Rattle.std.proofs.lemmas.Str.{IsUtf8-from_ascii}
 use Rattle.std.proofs.lemmas.List.{take-append-drop}
 use Rattle.matchit.specs.Rows.{RowsOf, param_token}
 use Rattle.matchit.specs.Seek.{has_slash, same_text}
+use Rattle.wire_model.specs.Forms.{named}
 use Rattle.wire_model.specs.Routes.{is_part, begins_with, part_behind, has_part_behind}
 use Rattle.api_routes.proofs.Taking.{takes, is_literal, NoneTakes, has_pattern}
 
@@ -142,6 +143,17 @@ none-of front path check (name ∷ names) rules_out e =
     let first_one : check (front ++ name) ≡ true = grind arith in
     let others : list_all (λ name. check (front ++ name)) names ≡ true = grind arith in
     rw (rules_out (front ++ name) first_one) (none-of front path check names rules_out others)
+
+-- a path that is no name of a list which a test rules out names none of its values
+pub none-named : {A : Type 0} (name_of : A → List ℕ) (path : List ℕ) (check : List ℕ → Bool)
+    (values : List A) →
+    ((p : List ℕ) → check p ≡ true → bytes_eq path p ≡ false) →
+    list_all (λ a. check (name_of a)) values ≡ true → named name_of values path ≡ None
+none-named name_of path check [] rules_out e = refl
+none-named name_of path check (a ∷ values) rules_out e =
+    let first_one : check (name_of a) ≡ true = grind arith in
+    let others : list_all (λ a. check (name_of a)) values ≡ true = grind arith in
+    rw (rules_out (name_of a) first_one) (none-named name_of path check values rules_out others)
 
 -- whether each byte is ASCII
 abbrev pub all_ascii : List ℕ → Bool

@@ -12,15 +12,18 @@ use Rattle.matchit.specs.declared.error.InsertError.{InsertError}
 use Rattle.matchit.specs.Seek.{first, same_text}
 use Rattle.wire_model.specs.Routes as routes
 use Rattle.wire_model.specs.Routes.{Route, route_of, is_part, has_part_behind, part_behind, is_unbuilt_command, unbuilt_names}
-use Rattle.wire_model.specs.declared.words.TheConstants.{API_FRONT, PAGES, CARD_FRONT, REFS_FRONT, DESKS_FRONT}
+use Rattle.wire_model.specs.Forms.{named, all_forms, form_path}
+use Rattle.wire_model.specs.declared.form.CommandForm.{CommandForm}
+use Rattle.wire_model.specs.declared.form.CommandForm.TheVariants as forms
+use Rattle.wire_model.specs.declared.words.TheConstants.{API_FRONT, CARD_FRONT, REFS_FRONT, DESKS_FRONT}
 use Rattle.api_routes.specs.Router.{all_routes, with_read}
 use Rattle.api_routes.specs.Routing.{route_beside, Leads}
 use Rattle.api_routes.specs.declared.router.Target.{Target}
-use Rattle.api_routes.specs.declared.router.Target.TheVariants.{Creation, Card, Unbuilt}
+use Rattle.api_routes.specs.declared.router.Target.TheVariants.{Command, Card, Unbuilt}
 use Rattle.api_routes.proofs.Taking.{takes, is_literal, all_simple, AllLead, NoneTakes, has_pattern}
 use Rattle.api_routes.proofs.TakeLemmas.{seek-found, all_simple-tells}
-use Rattle.api_routes.proofs.PatternLemmas.{same-bytes, takes-literal, takes-front, part-found, part-missing, front-joined, pattern-missing, none-of, no-text, all_ascii}
-use Rattle.api_routes.proofs.Leading.{part_pattern, is_target, is_card, is_unbuilt_target, fits_text, fits_card, fits_unbuilt, fits, all_fit}
+use Rattle.api_routes.proofs.PatternLemmas.{same-bytes, takes-literal, takes-front, part-found, part-missing, front-joined, pattern-missing, none-of, none-named, no-text, all_ascii}
+use Rattle.api_routes.proofs.Leading.{part_pattern, is_unbuilt_route, is_card, is_unbuilt_target, fits_command, fits_text, fits_card, fits_unbuilt, fits_other, fits, all_fit}
 
 -- each pattern of the router is simple
 pub all_routes-simple : all_simple all_routes ≡ true
@@ -41,10 +44,18 @@ pub names-known : list_all (λ name. is_known (API_FRONT.now ++ name)) unbuilt_n
 unfolding all_routes matchit_on_literals
 names-known = refl
 
--- the route that creates pages is in the router
-pub pages-known : is_known PAGES.now ≡ true
+-- the path of each form's route is in the router
+pub forms-known : list_all (λ form. is_known (form_path form)) all_forms ≡ true
 unfolding all_routes matchit_on_literals
-pages-known = refl
+forms-known = refl
+
+-- the path of a form's route leads to commands of that form
+pub form-route : (form : CommandForm) → route_of (form_path form) ≡ routes.command form
+unfolding route_of
+form-route forms.Create = refl
+form-route forms.Move = refl
+form-route forms.Delete = refl
+form-route forms.SetSlug = refl
 
 -- the three routes with a parameter are in the router
 pub card-known : has_pattern (part_pattern CARD_FRONT.now) all_routes ≡ true
@@ -100,40 +111,31 @@ desks-route path e =
 
 -- a path that is none of the routes leads beside them
 pub no-route : (path : List ℕ) → has_part_behind CARD_FRONT.now path ≡ false →
-    bytes_eq path PAGES.now ≡ false → is_unbuilt_command path ≡ false →
+    named form_path all_forms path ≡ None → is_unbuilt_command path ≡ false →
     has_part_behind REFS_FRONT.now path ≡ false → has_part_behind DESKS_FRONT.now path ≡ false →
     route_of path ≡ route_beside path
 unfolding route_of
-no-route path no_card no_pages no_command no_refs no_desks =
-    rw (part-missing CARD_FRONT.now path no_card, no_pages, no_command, no_refs, no_desks) refl
+no-route path no_card no_form no_command no_refs no_desks =
+    rw (part-missing CARD_FRONT.now path no_card, no_form, no_command, no_refs, no_desks) refl
 
--- where a target is the route of a text, a path that is the text leads there
-pub told-target : (path : List ℕ) (target : Target) → is_target (route_of path) target ≡ true →
-    Leads path target
-told-target path target e = by (route_of path) refl target e
-  where
-    by : (r : Route) → route_of path ≡ r → (target : Target) → is_target r target ≡ true →
-        Leads path target
-    by routes.creation is Creation e = is
-    by routes.creation is Card e = absurd (cc)
-    by routes.creation is Unbuilt e = absurd (cc)
-    by (routes.card_named text) is Creation e = absurd (cc)
-    by (routes.card_named text) is Card e = absurd (cc)
-    by (routes.card_named text) is Unbuilt e = absurd (cc)
-    by routes.unbuilt is Creation e = absurd (cc)
-    by routes.unbuilt is Card e = absurd (cc)
-    by routes.unbuilt is Unbuilt e = is
-    by routes.nowhere is target e = absurd (cc)
-    by routes.public_page is target e = absurd (cc)
-
--- a text that fits leads where its target says
-pub text-leads : (t path : List ℕ) (target : Target) → fits_text t target ≡ true →
+-- a path that is the path of a form's route leads to commands of that form
+pub command-leads : (t path : List ℕ) (target : Target) → fits_command t target ≡ true →
     takes t path ≡ true → Leads path target
-text-leads t path target e taken =
+command-leads t path (Command form) e taken =
     let literal : is_literal t ≡ true = grind arith in
-    let told : is_target (route_of t) target ≡ true = grind arith in
+    let told : same_text t (form_path form) ≡ true = grind arith in
     let same : path ≡ t = same-bytes path t (sym (takes-literal t path literal) ∙ taken) in
-    told-target path target (ap (λ p. is_target (route_of p) target) same ∙ told)
+    ap route_of (same ∙ same-bytes t (form_path form) told) ∙ form-route form
+command-leads t path Card e taken = absurd (cc)
+command-leads t path Unbuilt e taken = absurd (cc)
+
+-- a route that passes the test of what is not built yet is that route
+pub unbuilt-route : (route : Route) → is_unbuilt_route route ≡ true → route ≡ routes.unbuilt
+unbuilt-route (routes.command form) e = absurd (cc)
+unbuilt-route (routes.card_named text) e = absurd (cc)
+unbuilt-route routes.unbuilt e = refl
+unbuilt-route routes.nowhere e = absurd (cc)
+unbuilt-route routes.public_page e = absurd (cc)
 
 -- a pattern of one part behind a front takes the paths that have one
 pub part-taken : (front t path : List ℕ) → is_literal front ≡ true →
@@ -154,15 +156,25 @@ card-leads t path target e taken =
     by : (target : Target) → is_card target ≡ true → has_part_behind CARD_FRONT.now path ≡ true →
         Leads path target
     by Card told e = e
-    by Creation told e = absurd (cc)
+    by (Command form) told e = absurd (cc)
     by Unbuilt told e = absurd (cc)
 
 -- where a path leads to what is not built yet, so does the target
 pub unbuilt-leads : (path : List ℕ) (target : Target) → is_unbuilt_target target ≡ true →
     route_of path ≡ routes.unbuilt → Leads path target
 unbuilt-leads path Unbuilt told e = e
-unbuilt-leads path Creation told e = absurd (cc)
+unbuilt-leads path (Command form) told e = absurd (cc)
 unbuilt-leads path Card told e = absurd (cc)
+
+-- a text that leads to what is not built yet leads there
+pub text-leads : (t path : List ℕ) (target : Target) → fits_text t target ≡ true →
+    takes t path ≡ true → Leads path target
+text-leads t path target e taken =
+    let literal : is_literal t ≡ true = grind arith in
+    let there : is_unbuilt_route (route_of t) ≡ true = grind arith in
+    let told : is_unbuilt_target target ≡ true = grind arith in
+    let same : path ≡ t = same-bytes path t (sym (takes-literal t path literal) ∙ taken) in
+    unbuilt-leads path target told (ap route_of same ∙ unbuilt-route (route_of t) there)
 
 -- the pattern of references leads to what is not built yet
 pub refs-leads : (t path : List ℕ) (target : Target) → fits_unbuilt REFS_FRONT.now t target ≡ true →
@@ -183,10 +195,11 @@ desks-leads t path target e taken =
     unbuilt-leads path target told
     (desks-route path (part-taken DESKS_FRONT.now t path refl same taken))
 
--- a pattern and a target that fit lead the paths that the pattern takes to the target
-pub fits-leads : (t path : List ℕ) (target : Target) → fits t target ≡ true →
+-- a pattern and a target that fit, and are not of a form of commands, lead the paths that the
+-- pattern takes to the target
+pub other-leads : (t path : List ℕ) (target : Target) → fits_other t target ≡ true →
     takes t path ≡ true → Leads path target
-fits-leads t path target e taken =
+other-leads t path target e taken =
     by (fits_text t target) refl (fits_card t target) refl
     (fits_unbuilt REFS_FRONT.now t target) refl (fits_unbuilt DESKS_FRONT.now t target) refl e
   where
@@ -199,6 +212,16 @@ fits-leads t path target e taken =
     by false text false card true refs d desks e = refs-leads t path target refs taken
     by false text false card false refs true desks e = desks-leads t path target desks taken
     by false text false card false refs false desks e = absurd (cc)
+
+-- a pattern and a target that fit lead the paths that the pattern takes to the target
+pub fits-leads : (t path : List ℕ) (target : Target) → fits t target ≡ true →
+    takes t path ≡ true → Leads path target
+fits-leads t path target e taken = by (fits_command t target) refl e
+  where
+    by : (a : Bool) → fits_command t target ≡ a → (a || fits_other t target) ≡ true →
+        Leads path target
+    by true command e = command-leads t path target command taken
+    by false command e = other-leads t path target e taken
 
 -- rows that fit lead where their targets say
 pub rows-lead : (path : List ℕ) (rs : RowsOf (RouteOf Target)) → all_fit rs ≡ true →
@@ -230,7 +253,8 @@ pub none-beside : (path : List ℕ) → NoneTakes path all_routes → route_of p
 none-beside path none =
     no-route path
     (part-not-taken CARD_FRONT.now path refl card-known none)
-    (known-missing path PAGES.now none pages-known)
+    (none-named form_path path is_known all_forms
+    (λ text e. known-missing path text none e) forms-known)
     (none-of API_FRONT.now path is_known unbuilt_names
     (λ text e. known-missing path text none e) names-known)
     (part-not-taken REFS_FRONT.now path refl refs-known none)
@@ -252,6 +276,10 @@ first-leads path =
     by None none = none-beside path none
     by (Some route) leads = leads
 
+-- the paths of all forms' routes are ASCII
+pub forms-ascii : list_all (λ form. all_ascii (form_path form)) all_forms ≡ true
+forms-ascii = refl
+
 -- the names of what is not built yet are ASCII behind `/api/`
 pub names-ascii : list_all (λ name. all_ascii (API_FRONT.now ++ name)) unbuilt_names ≡ true
 names-ascii = refl
@@ -261,7 +289,8 @@ pub bytes-beside : (path : List ℕ) → (IsUtf8 path → ⊥) →
     has_part_behind CARD_FRONT.now path ≡ false → has_part_behind REFS_FRONT.now path ≡ false →
     has_part_behind DESKS_FRONT.now path ≡ false → route_of path ≡ route_beside path
 bytes-beside path bad no_card no_refs no_desks =
-    no-route path no_card (no-text path PAGES.now bad refl)
+    no-route path no_card
+    (none-named form_path path all_ascii all_forms (λ text e. no-text path text bad e) forms-ascii)
     (none-of API_FRONT.now path all_ascii unbuilt_names
     (λ text e. no-text path text bad e) names-ascii)
     no_refs no_desks

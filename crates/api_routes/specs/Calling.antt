@@ -11,7 +11,7 @@ use Rattle.wire_model.specs.declared.call.RouteFault.{RouteFault}
 use Rattle.wire_model.specs.declared.call.RouteFault.TheVariants.{NotFound, NotBuilt, Method, Form, Memory}
 
 -- where want of memory may come in the place of what is asked: only where the route and the method
--- are right, for a creation, a public page, or what is not of the form
+-- are right, for a command, a public page, or what is not of the form
 abbrev pub MayWant : Result Call RouteFault → Type 0
 MayWant (Ok (Run command)) = Unit {0}
 MayWant (Ok (Page page)) = ⊥

@@ -1,17 +1,17 @@
 //! The call that a request asks for.
 ghost use Rattle.std.specs.Prelude.{◌≡◌, ◌≢◌, Ok, Err, IfOk, IfErr, IsErrOf};
 ghost use Rattle.http_wire.specs.Reading.{request_of};
-ghost use Rattle.wire_model.specs.Routes.{call_of, call_on, creation, card_named, public_page};
+ghost use Rattle.wire_model.specs.Routes.{call_of, call_on, command, card_named, public_page};
 ghost use Rattle.api_routes.specs.Calling.{Answers, MayWant};
 
-use crate::body::read_creation;
+use crate::body::read_command;
 use crate::id::written_id;
 use crate::path::{Route, closed_path};
 use crate::router::Routes;
 use block_content::ContentFault;
 use http_wire::{Allow, Method, Request};
 use std::alloc::Global;
-use wire_model::{Call, RouteFault};
+use wire_model::{Call, CommandForm, RouteFault};
 
 /// What a request asks for, as `Routes::to_call` on a fresh router says. To ask for many, make the
 /// router once.
@@ -30,8 +30,8 @@ impl Routes {
     /// What a request asks for, or why it asks nothing: its route is tried first (404, and 501 for
     /// what is not built yet), then its method (405), and then its form (400).
     ///
-    /// One look-up of the path, and one pass over the body of a creation. Memory is taken for the
-    /// body of a creation and for the path of a public page alone, and so only these can want it.
+    /// One look-up of the path, and one pass over the body of a command. Memory is taken for the body
+    /// of a command and for the path of a public page alone, and so only these can want it.
     pub fn to_call(&self, alloc: Global, request: &Request<'_>) -> Result<Call, RouteFault>
         ensures ok { IfOk result (λ call. call_of (request_of request.now) ≡ Ok call) }
         ensures err { IfErr result (λ fault. (fault ≢ RouteFault.Memory)
@@ -47,7 +47,7 @@ impl Routes {
         ensures { Answers result (call_of (request_of request.now)) }
     {
         match self.route(request.path) {
-            Route::Creation => creation_call(alloc, request),
+            Route::Command(form) => command_call(alloc, request, form),
             Route::Card(text) => card_call(request, text),
             Route::Unbuilt => Err(RouteFault::NotBuilt),
             Route::Nowhere => Err(RouteFault::NotFound),
@@ -56,14 +56,14 @@ impl Routes {
     }
 }
 
-/// What a request to the route that creates pages asks for.
-fn creation_call(alloc: Global, request: &Request<'_>) -> Result<Call, RouteFault>
-    ensures { Answers result (call_on creation (request_of request.now)) }
+/// What a request to the route of commands of this form asks for.
+fn command_call(alloc: Global, request: &Request<'_>, form: CommandForm) -> Result<Call, RouteFault>
+    ensures { Answers result (call_on (command form) (request_of request.now)) }
 {
     let Method::Post = request.method else {
         return Err(RouteFault::Method(Allow::Post));
     };
-    match read_creation(alloc, request.body) {
+    match read_command(alloc, form, request.body) {
         Ok(command) => Ok(Call::Run(command)),
         Err(ContentFault::Bad) => Err(RouteFault::Form),
         Err(ContentFault::Memory) => Err(RouteFault::Memory),

@@ -5,7 +5,9 @@
 mod body;
 mod call;
 mod card;
+mod form;
 mod id;
+mod member;
 mod parts;
 mod path;
 mod refusal;

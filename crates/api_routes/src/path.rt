@@ -8,13 +8,13 @@ ghost use Rattle.api_routes.specs.Calling.{ends_with_slash};
 
 use site_types::{NoMemory, Url};
 use std::alloc::Global;
-use wire_model::{API, API_FRONT, CARD_FRONT, DESKS_FRONT, REFS_FRONT};
+use wire_model::{API, API_FRONT, CARD_FRONT, CommandForm, DESKS_FRONT, REFS_FRONT};
 
 /// What a path leads to.
 #[derive(Drop)]
 pub enum Route<'p> {
-    /// The creation of a page.
-    Creation,
+    /// Commands of this form.
+    Command(CommandForm),
     /// The card of the page that this text names, if it is an id.
     Card(&'p [u8]),
     /// What is not built yet.

@@ -1,7 +1,8 @@
 //! The router of all requests.
 ghost use Rattle.std.specs.Prelude.{◌≡◌, IfOk, OnOk, MatchOption, map};
+ghost use Rattle.wire_model.specs.Forms.{form_path};
 ghost use Rattle.wire_model.specs.Routes.{route_of};
-ghost use Rattle.api_routes.specs.Router.{all_routes, with_route, with_unbuilt};
+ghost use Rattle.api_routes.specs.Router.{all_routes, with_route, with_commands, with_unbuilt};
 ghost use Rattle.api_routes.specs.Routing.{Leads, route_beside, route_meant};
 
 use crate::path::{Route, beside_routes, card_text, route_of_bytes};
@@ -9,31 +10,34 @@ use matchit::Router;
 use site_ids::NoMemory;
 use std::alloc::Global;
 use std::marker::Model;
+use wire_model::CommandForm;
 
 /// What a route of the router leads to.
 #[derive(Clone, Copy, Debug, PartialEq, Eq)]
 pub enum Target {
-    /// The creation of a page.
-    Creation,
+    /// Commands of this form.
+    Command(CommandForm),
     /// The card of the page that the parameter names.
     Card,
     /// What is not built yet.
     Unbuilt,
 }
 
-/// The route that creates pages.
-const CREATION_ROUTE: &str = "/api/pages";
+/// The forms of commands whose routes are built.
+const FORMS: [CommandForm; 4] = [
+    CommandForm::Create,
+    CommandForm::Move,
+    CommandForm::Delete,
+    CommandForm::SetSlug,
+];
 
 /// The route of cards.
 const CARD_ROUTE: &str = "/api/pages/{id}";
 
 /// The routes of what is not built yet.
-const UNBUILT_ROUTES: [&str; 31] = [
+const UNBUILT_ROUTES: [&str; 28] = [
     "/api/refs/{id}",
     "/api/desks/{id}",
-    "/api/move",
-    "/api/delete",
-    "/api/slug",
     "/api/alias",
     "/api/detach",
     "/api/copy",
@@ -88,7 +92,7 @@ impl Routes {
         ensures { IfOk result (λ routes. routes ≡ all_routes) }
     {
         let mut router = Router::new(alloc);
-        add(&mut router, CREATION_ROUTE, Target::Creation)?;
+        add_commands(&mut router, &FORMS)?;
         add(&mut router, CARD_ROUTE, Target::Card)?;
         add_unbuilt(&mut router, &UNBUILT_ROUTES)?;
         Ok(Routes { router })
@@ -103,7 +107,7 @@ impl Routes {
         };
         match self.find(text) {
             None => beside_routes(path),
-            Some(Target::Creation) => Route::Creation,
+            Some(Target::Command(form)) => Route::Command(form),
             Some(Target::Card) => Route::Card(card_text(path)),
             Some(Target::Unbuilt) => Route::Unbuilt,
         }
@@ -127,6 +131,28 @@ fn add(router: &mut Router<Target>, route: &str, target: Target) -> Result<(), N
     let Ok(()) = router.insert(route, target) else {
         return Err(NoMemory);
     };
+    Ok(())
+}
+
+/// The route of commands of this form.
+fn command_route(form: CommandForm) -> &'static str
+    ensures { result.now ≡ form_path form }
+{
+    match form {
+        CommandForm::Create => "/api/pages",
+        CommandForm::Move => "/api/move",
+        CommandForm::Delete => "/api/delete",
+        CommandForm::SetSlug => "/api/slug",
+    }
+}
+
+/// Adds the routes of commands of these forms.
+fn add_commands(router: &mut Router<Target>, forms: &[CommandForm]) -> Result<(), NoMemory>
+    ensures { OnOk result (router.new ≡ with_commands forms.now router.old) }
+{
+    for form in forms {
+        add(router, command_route(*form), Target::Command(*form))?;
+    }
     Ok(())
 }
 

@@ -31,8 +31,12 @@ const PATHS: &[(&str, &str, &str)] = &[
     ("/api/desks/", "404", "404"),
     ("/api/desks/2/3", "404", "404"),
     ("/api/checkpoint", "501", "501"),
-    ("/api/move", "501", "501"),
+    ("/api/alias", "501", "501"),
+    ("/api/move", "405 POST", "400"),
+    ("/api/delete", "405 POST", "400"),
+    ("/api/slug", "405 POST", "400"),
     ("/api/move/", "404", "404"),
+    ("/api/slugs", "404", "404"),
     ("/api/Move", "404", "404"),
     ("/api/unpublish", "501", "501"),
     ("/api/privacy", "404", "404"),
@@ -51,9 +55,6 @@ const PATHS: &[(&str, &str, &str)] = &[
 
 /// What stands behind `/api/` and is not built yet.
 const UNBUILT: &[&str] = &[
-    "move",
-    "delete",
-    "slug",
     "alias",
     "detach",
     "copy",
@@ -121,6 +122,80 @@ const MEMBERS: &[(&str, &str, &str)] = &[
     ("1", "a\",\"url\":\"b", "400"),
 ];
 
+/// Routes of commands, bodies, and what is asked by POST.
+const COMMANDS: &[(&str, &str, &str)] = &[
+    (
+        "move",
+        r#"{"page":3,"position":"first-child","target":7}"#,
+        "move 3 by 7: FirstChild",
+    ),
+    (
+        "move",
+        r#"{"page":3,"position":"last-child","target":7}"#,
+        "move 3 by 7: LastChild",
+    ),
+    (
+        "move",
+        r#"{"page":3,"position":"first-sibling","target":7}"#,
+        "move 3 by 7: FirstSibling",
+    ),
+    (
+        "move",
+        r#"{"target":7,"position":"left","page":3}"#,
+        "move 3 by 7: Left",
+    ),
+    (
+        "move",
+        r#"{"page":3,"position":"right","target":3}"#,
+        "move 3 by 3: Right",
+    ),
+    (
+        "move",
+        r#"{"page":1,"position":"last-sibling","target":1000000}"#,
+        "move 1 by 1000000: LastSibling",
+    ),
+    (
+        "move",
+        r#"{"page":3,"position":"l\u0065ft","target":7}"#,
+        "move 3 by 7: Left",
+    ),
+    ("move", r#"{"page":3,"position":"Left","target":7}"#, "400"),
+    (
+        "move",
+        r#"{"page":3,"position":"first_child","target":7}"#,
+        "400",
+    ),
+    ("move", r#"{"page":3,"position":"","target":7}"#, "400"),
+    ("move", r#"{"page":3,"position":4,"target":7}"#, "400"),
+    ("move", r#"{"page":3,"position":null,"target":7}"#, "400"),
+    ("move", r#"{"page":0,"position":"left","target":7}"#, "400"),
+    (
+        "move",
+        r#"{"page":3,"position":"left","target":1000001}"#,
+        "400",
+    ),
+    ("move", r#"{"page":3,"position":"left"}"#, "400"),
+    (
+        "move",
+        r#"{"page":3,"position":"left","slug":"a","target":7}"#,
+        "400",
+    ),
+    ("move", "", "400"),
+    ("delete", r#"{"page":3}"#, "delete 3"),
+    ("delete", r#"{"page":4,"page":3}"#, "delete 3"),
+    ("delete", r#"{"page":"3"}"#, "400"),
+    ("delete", r#"{"page":0}"#, "400"),
+    ("delete", r#"{"page":3,"target":3}"#, "400"),
+    ("delete", "3", "400"),
+    ("delete", "", "400"),
+    ("slug", r#"{"page":3,"slug":"b-2"}"#, "name 3 b-2"),
+    ("slug", r#"{"slug":"b","page":1000000}"#, "name 1000000 b"),
+    ("slug", r#"{"page":3,"slug":""}"#, "400"),
+    ("slug", r#"{"page":3,"slug":"a/b"}"#, "400"),
+    ("slug", r#"{"page":3}"#, "400"),
+    ("slug", r#"{"page":3,"parent":1,"slug":"b"}"#, "400"),
+];
+
 /// Bodies that ask for no page.
 const NO_CREATIONS: &[&[u8]] = &[
     b"",
@@ -173,6 +248,28 @@ fn in_short(alloc: Global, asked: &Result<Call, RouteFault>) -> Result<String, A
             let parent = parent.get();
             let slug = text_of(slug.as_slice());
             format!(in alloc; "create {slug} below {parent}")
+        }
+        Ok(
+            Call::Run(
+                Command::Move {
+                    page,
+                    target,
+                    position,
+                },
+            ),
+        ) => {
+            let page = page.get();
+            let target = target.get();
+            format!(in alloc; "move {page} by {target}: {position:?}")
+        }
+        Ok(Call::Run(Command::Delete { page })) => {
+            let page = page.get();
+            format!(in alloc; "delete {page}")
+        }
+        Ok(Call::Run(Command::SetSlug { page, slug })) => {
+            let page = page.get();
+            let slug = text_of(slug.as_slice());
+            format!(in alloc; "name {page} {slug}")
         }
         Ok(Call::Run(_)) => String::from_str(alloc, "another command"),
         Ok(Call::Page(page)) => {
@@ -256,6 +353,19 @@ fn parents_and_slugs_are_read(rt: HostRuntime) -> Result<(), Fail> {
         let body = body.as_str().as_bytes();
         let asked = to_call(alloc, &request(Method::Post, b"/api/pages", body));
         assert_eq!(rt; in_short(alloc, &asked)?.as_str(), *got);
+    }
+    Ok(())
+}
+
+#[test]
+fn moves_deletions_and_slugs_are_read(rt: HostRuntime) -> Result<(), Fail> {
+    let alloc = rt.alloc();
+    let routes = Routes::new(alloc)?;
+    for (name, body, posted) in COMMANDS {
+        let path = format!(in alloc; "/api/{name}")?;
+        let path = path.as_str().as_bytes();
+        let by_post = asked(alloc, &routes, Method::Post, path, body.as_bytes())?;
+        assert_eq!(rt; by_post.as_str(), *posted);
     }
     Ok(())
 }

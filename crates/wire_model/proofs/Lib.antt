@@ -1,1 +1,4 @@
 pub mod TranscriptLemmas
+pub mod AskedLemmas
+pub mod BuiltLemmas
+pub mod SlugLemmas

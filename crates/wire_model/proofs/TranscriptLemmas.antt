@@ -36,7 +36,7 @@ decided_legal tally entry (Err refusal) is next = tt
 
 -- a command is added legally
 run_legal : (tally : Tally World) (user moment : ℕ) (command : Command) (built : Bool) →
-    is_built tally.world command ≡ built → AddsLegal tally (run tally user moment command)
+    is_built command ≡ built → AddsLegal tally (run tally user moment command)
 run_legal tally user moment command true is =
     let entry : Entry = entry_of user moment command (tally.number + 1) in
     rw is (decided_legal tally entry (reply_of step number_of (step tally.world entry)) refl refl)

@@ -1,9 +1,8 @@
 -- The exchange of one request: which answer it gets after a history, and what that adds to it.
-use Rattle.std.specs.Prelude.{ℕ, Bool, false, ◌==◌, ◌||◌, not, ◌+◌, List, [], ◌∷◌, ◌++◌, bytes_eq, Option, Some, None, Result, Ok, Err, if◌then◌else◌}
+use Rattle.std.specs.Prelude.{ℕ, Bool, true, false, ◌+◌, List, [], ◌∷◌, ◌++◌, bytes_eq, Option, Some, None, Result, Ok, Err, if◌then◌else◌}
 use Rattle.std.specs.Bool.{then_some}
-use Rattle.page_tree.specs.Tree.{has_page}
 use Rattle.site_types.specs.declared.command.Command.{Command}
-use Rattle.site_types.specs.declared.command.Command.TheVariants.{Create}
+use Rattle.site_types.specs.declared.command.Command.TheVariants.{Create, Move, Delete, SetSlug}
 use Rattle.site_types.specs.declared.entry.Entry.{Entry}
 use Rattle.site_types.specs.declared.refusal.Refusal.{Refusal}
 use Rattle.site_types.specs.declared.refusal.Refusal.TheVariants.{NoPage}
@@ -49,11 +48,15 @@ abbrev pub user_of : Option (List ℕ) → Option ℕ
 user_of None = None
 user_of (Some token) = then_some (bytes_eq token KNOWN_TOKEN.now) 1
 
--- a page can be made below the root alone, so far; below what is no page it is refused
-abbrev pub is_built : World → Command → Bool
-is_built world (Create parent slug content) =
-    (parent == 1) || not (has_page parent world.part.tree)
-is_built world _ = false
+-- The commands that are built so far, whatever the world is. Each command that a request can ask
+-- for is built (`RoutesAreBuilt` in Laws.antt), so that no request is told that its command is not:
+-- what is not built yet has no route to it, and such a route is told of instead.
+abbrev pub is_built : Command → Bool
+is_built (Create parent slug content) = true
+is_built (Move page target position) = true
+is_built (Delete page) = true
+is_built (SetSlug page slug) = true
+is_built _ = false
 
 -- the entry of a command by a user at a moment, with a number
 abbrev pub entry_of : ℕ → ℕ → Command → ℕ → Entry
@@ -82,7 +85,7 @@ entered tally entry = decided entry (histories.reply_of step number_of (step tal
 -- a command by a user at a moment
 abbrev pub run : Tally World → ℕ → ℕ → Command → Outcome
 run tally user moment command =
-    if is_built tally.world command
+    if is_built command
     then entered tally (entry_of user moment command (tally.number + 1))
     else telling answers.NotBuilt
 

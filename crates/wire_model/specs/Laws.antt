@@ -1,7 +1,12 @@
 -- The laws of transcripts, each proved in src/laws.rt.
-use Rattle.std.specs.Prelude.{◌≡◌, ℕ, ◌≤◌, List, ◌++◌, length, Option, IsSome, IsTrue}
+use Rattle.std.specs.Prelude.{◌≡◌, ℕ, ◌≤◌, List, ◌++◌, length, Option, IsSome, IsTrue, Ok}
+use Rattle.site_ids.specs.Slug.{IsSlug}
+use Rattle.site_types.specs.declared.command.Command.{Command}
+use Rattle.site_types.specs.declared.command.Command.TheVariants.{Create, SetSlug}
 use Rattle.http_model.specs.Requests.{Request, whole, IsFront}
-use Rattle.wire_model.specs.Exchange.{Past, IsLegal}
+use Rattle.wire_model.specs.declared.call.Call.TheVariants.{Run}
+use Rattle.wire_model.specs.Routes.{call_of}
+use Rattle.wire_model.specs.Exchange.{Past, IsLegal, is_built}
 use Rattle.wire_model.specs.Transcript.{Told, Follows, HasMoments, closes}
 
 -- a transcript stays one with more bytes behind, which come behind what was left; so it makes no
@@ -66,3 +71,20 @@ ClosingIsLast =
     Follows past bytes told after rest → Follows past bytes other later left →
     IsTrue (closes told) →
     length other ≤ length told
+
+-- each command that a request can ask for is built
+abbrev pub RoutesAreBuilt : Type 0
+RoutesAreBuilt =
+    (request : Request) (command : Command) →
+    call_of request ≡ Ok (Run command) → IsTrue (is_built command)
+
+-- the slug that a command gives a page, where it gives one, is by the rule of slugs
+abbrev pub HasSlug : Command → Type 0
+HasSlug (Create parent slug content) = IsSlug slug
+HasSlug (SetSlug page slug) = IsSlug slug
+HasSlug _ = Unit {0}
+
+-- each command that a request can ask for has such a slug
+abbrev pub RoutesGiveSlugs : Type 0
+RoutesGiveSlugs =
+    (request : Request) (command : Command) → call_of request ≡ Ok (Run command) → HasSlug command

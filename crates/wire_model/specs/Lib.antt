@@ -1,3 +1,4 @@
+pub mod Forms
 pub mod Routes
 pub mod Cards
 pub mod Answers

@@ -1,33 +1,27 @@
 -- The routes: which call the method, the path and the body of a request ask for.
-use Rattle.std.specs.Prelude.{ℕ, Bool, ◌==◌, ◌&&◌, ◌||◌, not, List, [], ◌∷◌, ◌++◌, length, take, drop, codes, Option, Some, None, option_map, option_and_then, Result, Ok, Err, bytes_eq, if◌then◌else◌}
+use Rattle.std.specs.Prelude.{ℕ, Bool, ◌==◌, ◌&&◌, ◌||◌, not, List, [], ◌∷◌, ◌++◌, length, take, drop, codes, Option, Some, None, option_map, Result, Ok, Err, bytes_eq, if◌then◌else◌}
 use Rattle.std.specs.Bool.{then_some}
 use Rattle.std.specs.List.{list_all, list_any}
 use Rattle.std.specs.Char.{is_ascii_digit}
 use Rattle.std.specs.Str.Parse.{digits_value}
-use Rattle.std.specs.Str.{is_utf8}
-use Rattle.serde_json.specs.Data.{Data}
-use Rattle.serde_json.specs.Find.{get}
-use Rattle.serde_json.specs.Read.{read}
 use Rattle.http_model.specs.declared.method.Method.{Method}
 use Rattle.http_model.specs.declared.method.Method.TheVariants.{Get, Post}
 use Rattle.http_model.specs.declared.method.Allow.TheVariants as allows
 use Rattle.http_model.specs.Requests.{Request}
-use Rattle.json_model.specs.Members.{has_exactly, id_of, slug_of, is_within}
-use Rattle.json_model.specs.Content.{content_of}
+use Rattle.json_model.specs.Members.{is_within}
 use Rattle.site_ids.specs.declared.ids.TheConstants.{LAST_PAGE_ID}
-use Rattle.site_types.specs.Content.{ContentValue}
-use Rattle.site_types.specs.declared.command.Command.{Command}
-use Rattle.site_types.specs.declared.command.Command.TheVariants.{Create}
 use Rattle.wire_model.specs.declared.call.Call.{Call}
 use Rattle.wire_model.specs.declared.call.Call.TheVariants.{Run, Page, Public}
 use Rattle.wire_model.specs.declared.call.RouteFault.{RouteFault}
 use Rattle.wire_model.specs.declared.call.RouteFault.TheVariants.{NotFound, NotBuilt, Method as WrongMethod, Form}
-use Rattle.wire_model.specs.declared.words.TheConstants.{API, API_FRONT, PAGES, CARD_FRONT, REFS_FRONT, DESKS_FRONT}
+use Rattle.wire_model.specs.declared.form.CommandForm.{CommandForm}
+use Rattle.wire_model.specs.Forms.{named, all_forms, form_path, command_asked}
+use Rattle.wire_model.specs.declared.words.TheConstants.{API, API_FRONT, CARD_FRONT, REFS_FRONT, DESKS_FRONT}
 
--- What a path leads to: the creation of pages; the card of the page that a text names; a route that
--- is not built yet; no route; or a page for everybody.
+-- What a path leads to: commands of a form; the card of the page that a text names; a route that is
+-- not built yet; no route; or a page for everybody.
 pub data Route : Type 0 where
-  creation : Route
+  command : (form : CommandForm) → Route
   card_named : (text : List ℕ) → Route
   unbuilt : Route
   nowhere : Route
@@ -51,12 +45,11 @@ part_behind front path =
 -- the names of the commands whose routes are not built yet, and of the checkpoint
 abbrev pub unbuilt_names : List (List ℕ)
 unbuilt_names =
-    codes "move" ∷ codes "delete" ∷ codes "slug" ∷ codes "alias" ∷ codes "detach" ∷ codes "copy"
-    ∷ codes "open" ∷ codes "save" ∷ codes "shut" ∷ codes "file" ∷ codes "publish"
-    ∷ codes "unpublish" ∷ codes "unschedule" ∷ codes "lock" ∷ codes "unlock" ∷ codes "purge"
-    ∷ codes "tasks" ∷ codes "workflows" ∷ codes "assign" ∷ codes "submit" ∷ codes "approve"
-    ∷ codes "reject" ∷ codes "cancel" ∷ codes "users" ∷ codes "groups" ∷ codes "members"
-    ∷ codes "grants" ∷ codes "tick" ∷ codes "checkpoint" ∷ []
+    codes "alias" ∷ codes "detach" ∷ codes "copy" ∷ codes "open" ∷ codes "save" ∷ codes "shut"
+    ∷ codes "file" ∷ codes "publish" ∷ codes "unpublish" ∷ codes "unschedule" ∷ codes "lock"
+    ∷ codes "unlock" ∷ codes "purge" ∷ codes "tasks" ∷ codes "workflows" ∷ codes "assign"
+    ∷ codes "submit" ∷ codes "approve" ∷ codes "reject" ∷ codes "cancel" ∷ codes "users"
+    ∷ codes "groups" ∷ codes "members" ∷ codes "grants" ∷ codes "tick" ∷ codes "checkpoint" ∷ []
 
 -- whether the path is that of a command which is not built yet
 abbrev pub is_unbuilt_command : List ℕ → Bool
@@ -76,12 +69,15 @@ is_unbuilt path =
 abbrev pub is_api : List ℕ → Bool
 is_api path = bytes_eq path API.now || begins_with API_FRONT.now path
 
--- what a path leads to, where it is not the route of a card
+-- what a path leads to, where it is the route neither of a card nor of commands
 abbrev pub other_route : List ℕ → Route
 other_route path =
-    if bytes_eq path PAGES.now
-    then creation
-    else if is_unbuilt path then unbuilt else if is_api path then nowhere else public_page
+    if is_unbuilt path then unbuilt else if is_api path then nowhere else public_page
+
+-- the route of commands of a form, or the other one
+abbrev pub command_or : Option CommandForm → Route → Route
+command_or (Some form) other = command form
+command_or None other = other
 
 -- the route of the card, or the other one
 abbrev pub card_or : Option (List ℕ) → Route → Route
@@ -90,7 +86,9 @@ card_or None other = other
 
 -- what a path leads to
 unfoldable pub route_of : List ℕ → Route
-route_of path = card_or (part_behind CARD_FRONT.now path) (other_route path)
+route_of path =
+    card_or (part_behind CARD_FRONT.now path)
+    (command_or (named form_path all_forms path) (other_route path))
 
 -- the page's id that a text of 1 to 7 digits writes: 1 to 1,000,000
 abbrev pub id_written : List ℕ → Option ℕ
@@ -99,32 +97,6 @@ id_written text =
     (is_within 1 7 (length text) && (list_all is_ascii_digit text
     && is_within 1 LAST_PAGE_ID (digits_value 10 text)))
     (digits_value 10 text)
-
--- the text that a body is: no bytes are read as an empty object
-abbrev pub text_of_body : List ℕ → List ℕ
-text_of_body body = if length body == 0 then codes "{}" else body
-
--- the JSON that a body is, where it is any
-abbrev pub data_of : List ℕ → Option Data
-data_of body = if is_utf8 body then read (text_of_body body) else None
-
--- the creation of a page with this slug and content below this parent
-abbrev pub creation_of : Option ℕ → Option (List ℕ) → Option ContentValue → Option Command
-creation_of (Some parent) (Some slug) (Some content) = Some (Create parent slug content)
-creation_of parent slug content = None
-
--- the creation that an object asks for: it has exactly the members content, parent and slug
-abbrev pub creation_in : Data → Option Command
-creation_in value =
-    if has_exactly (codes "content" ∷ codes "parent" ∷ codes "slug" ∷ []) value
-    then creation_of (option_and_then id_of (get (codes "parent") value))
-    (option_and_then slug_of (get (codes "slug") value))
-    (option_and_then content_of (get (codes "content") value))
-    else None
-
--- the command that a body asks for on the route of creations
-unfoldable pub creation_asked : List ℕ → Option Command
-creation_asked body = option_and_then creation_in (data_of body)
 
 -- what there is, or else a fault
 abbrev pub or_fault : {A : Type 0} → Option A → RouteFault → Result A RouteFault
@@ -149,8 +121,8 @@ by_get method call = Err (WrongMethod allows.Get)
 
 -- what a request asks for on a route: the method is tried first, and then the form
 abbrev pub call_on : Route → Request → Result Call RouteFault
-call_on creation request =
-    by_post request.method (or_fault (option_map Run (creation_asked request.body)) Form)
+call_on (command form) request =
+    by_post request.method (or_fault (option_map Run (command_asked form request.body)) Form)
 call_on (card_named text) request =
     by_get request.method (or_fault (option_map Page (id_written text)) Form)
 call_on unbuilt request = Err NotBuilt

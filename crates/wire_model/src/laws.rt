@@ -1,5 +1,5 @@
 //! Laws of transcripts. Each is a function that does nothing: its contract is the law.
-ghost use Rattle.wire_model.specs.Laws.{TranscriptStays, TranscriptKeepsLegal, LongerBeginsWithShorter, OneTranscript, NothingAskedIsLast, ClosingIsLast};
+ghost use Rattle.wire_model.specs.Laws.{TranscriptStays, TranscriptKeepsLegal, LongerBeginsWithShorter, OneTranscript, NothingAskedIsLast, ClosingIsLast, RoutesAreBuilt, RoutesGiveSlugs};
 
 /// A transcript stays one with more bytes behind.
 pub fn transcript_stays()
@@ -29,4 +29,14 @@ pub fn nothing_asked_is_last()
 /// Where the last request asks for closing, no other transcript is longer.
 pub fn closing_is_last()
     ensures { ClosingIsLast }
+{}
+
+/// Each command that a request can ask for is built.
+pub fn routes_are_built()
+    ensures { RoutesAreBuilt }
+{}
+
+/// The slug of each command that a request can ask for is by the rule of slugs.
+pub fn routes_give_slugs()
+    ensures { RoutesGiveSlugs }
 {}

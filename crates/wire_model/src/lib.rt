@@ -4,11 +4,11 @@
 
 mod answer;
 mod call;
+mod form;
 pub mod laws;
 mod words;
 
 pub use answer::Answer;
 pub use call::{Call, RouteFault};
-pub use words::{
-    ANSWER_LIMIT, API, API_FRONT, CARD_FRONT, DESKS_FRONT, KNOWN_TOKEN, PAGES, REFS_FRONT,
-};
+pub use form::CommandForm;
+pub use words::{ANSWER_LIMIT, API, API_FRONT, CARD_FRONT, DESKS_FRONT, KNOWN_TOKEN, REFS_FRONT};

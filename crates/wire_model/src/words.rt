@@ -12,9 +12,6 @@ pub const API: &[u8] = b"/api";
 /// The front of the paths below it.
 pub const API_FRONT: &[u8] = b"/api/";
 
-/// The path of the route that creates pages.
-pub const PAGES: &[u8] = b"/api/pages";
-
 /// The front of the path of a card, before the page's id.
 pub const CARD_FRONT: &[u8] = b"/api/pages/";
 

@@ -1,6 +1,6 @@
 use Rattle.std.proofs.Common.{ℕ, List, ap, sym, ◌∙◌}
 use Rattle.serde_json.specs.Read.{read}
-use Rattle.wire_model.specs.Routes.{text_of_body}
+use Rattle.wire_model.specs.Forms.{text_of_body}
 use Rattle.api_routes.proofs.CallLemmas.{bad-body, body-read}
 use Rattle.api_routes.proofs.body.read_body.Goals as goal
 

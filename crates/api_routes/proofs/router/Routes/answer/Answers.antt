@@ -5,8 +5,8 @@ use Rattle.wire_model.specs.declared.call.RouteFault.TheVariants.{NotFound, NotB
 use Rattle.api_routes.proofs.CallLemmas.{asked-on}
 use Rattle.api_routes.proofs.router.Routes.answer.Goals as goal
 
-pub returns-in-Creation : goal.returns-in-Creation
-returns-in-Creation c = asked-on _ _ _ c.in-Creation.ensures c.creation_call.ensures
+pub returns-in-Command : goal.returns-in-Command
+returns-in-Command c = asked-on _ _ _ c.in-Command.ensures c.command_call.ensures
 
 pub returns-in-Card : goal.returns-in-Card
 returns-in-Card c = asked-on _ _ _ c.in-Card.ensures c.card_call.ensures

@@ -7,8 +7,8 @@ unfolding all_routes
 invariant_of-result c =
     rw (
       c.in_ok-add_unbuilt.ensures,
-      c.in_ok-add-2.ensures,
       c.in_ok-add.ensures,
+      c.in_ok-add_commands.ensures,
       c.new-router.ensures,
     ) refl
 
@@ -17,7 +17,7 @@ unfolding all_routes
 returns c =
     rw (
       c.in_ok-add_unbuilt.ensures,
-      c.in_ok-add-2.ensures,
       c.in_ok-add.ensures,
+      c.in_ok-add_commands.ensures,
       c.new-router.ensures,
     ) refl

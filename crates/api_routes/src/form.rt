@@ -1,0 +1,100 @@
+//! The commands that JSON values ask for, by their forms.
+ghost use Rattle.std.specs.Prelude.{◌≡◌};
+ghost use Rattle.serde_json.specs.View.{view};
+ghost use Rattle.block_content.specs.Reads.{Reads};
+ghost use Rattle.wire_model.specs.Forms.{command_in, creation_in, move_in, deletion_in, slug_change_in};
+
+use crate::member::{content_at, id_at, position_at, slug_at};
+use block_content::ContentFault;
+use block_content::members::has_exactly;
+use serde_json::Value;
+use site_types::Command;
+use std::alloc::Global;
+use wire_model::CommandForm;
+
+/// The command of a form that a value asks for. Only a creation takes memory.
+pub(crate) fn command_in(
+    alloc: Global,
+    form: CommandForm,
+    value: &Value,
+) -> Result<Command, ContentFault>
+    ensures { Reads result (command_in form (view value.now)) }
+{
+    match form {
+        CommandForm::Create => creation_in(alloc, value),
+        CommandForm::Move => or_bad(move_in(value)),
+        CommandForm::Delete => or_bad(deletion_in(value)),
+        CommandForm::SetSlug => or_bad(slug_change_in(value)),
+    }
+}
+
+/// A command where there is one, and else that the value is not of the form.
+fn or_bad(command: Option<Command>) -> Result<Command, ContentFault>
+    ensures { Reads result command }
+{
+    match command {
+        Some(command) => Ok(command),
+        None => Err(ContentFault::Bad),
+    }
+}
+
+/// The creation that a value asks for.
+fn creation_in(alloc: Global, value: &Value) -> Result<Command, ContentFault>
+    ensures { Reads result (creation_in (view value.now)) }
+{
+    if !has_exactly(value, &["content", "parent", "slug"]) {
+        return Err(ContentFault::Bad);
+    }
+    let Some(parent) = id_at(value, "parent") else {
+        return Err(ContentFault::Bad);
+    };
+    let Some(slug) = slug_at(value) else {
+        return Err(ContentFault::Bad);
+    };
+    let content = content_at(alloc, value)?;
+    Ok(Command::Create {
+        parent,
+        slug,
+        content,
+    })
+}
+
+/// The move that a value asks for.
+fn move_in(value: &Value) -> Option<Command>
+    ensures { result ≡ move_in (view value.now) }
+{
+    if !has_exactly(value, &["page", "position", "target"]) {
+        return None;
+    }
+    let page = id_at(value, "page")?;
+    let target = id_at(value, "target")?;
+    let position = position_at(value)?;
+    Some(Command::Move {
+        page,
+        target,
+        position,
+    })
+}
+
+/// The deletion that a value asks for.
+fn deletion_in(value: &Value) -> Option<Command>
+    ensures { result ≡ deletion_in (view value.now) }
+{
+    if !has_exactly(value, &["page"]) {
+        return None;
+    }
+    let page = id_at(value, "page")?;
+    Some(Command::Delete { page })
+}
+
+/// The change of a slug that a value asks for.
+fn slug_change_in(value: &Value) -> Option<Command>
+    ensures { result ≡ slug_change_in (view value.now) }
+{
+    if !has_exactly(value, &["page", "slug"]) {
+        return None;
+    }
+    let page = id_at(value, "page")?;
+    let slug = slug_at(value)?;
+    Some(Command::SetSlug { page, slug })
+}

@@ -14,3 +14,12 @@ pub mod BodyLemmas
 pub mod SlugLemmas
 pub mod CutLemmas
 pub mod RemoveLemmas
+pub mod ListingLemmas
+pub mod MoveLemmas
+pub mod MapLemmas
+pub mod SettleLemmas
+pub mod ListedLemmas
+pub mod SettledLemmas
+pub mod MovedLemmas
+pub mod RelabelLemmas
+pub mod ReadyLemmas

@@ -112,7 +112,7 @@ same_path id (one ∷ rows) row order found =
     )
 
 -- pairs of which one thing holds, where another follows
-EachPair-weaker : (R S : Page → Page → Type 0) → ((one other : Page) → R one other → S one other) →
+pub EachPair-weaker : (R S : Page → Page → Type 0) → ((one other : Page) → R one other → S one other) →
     (rows : List Page) → EachPair R rows → EachPair S rows
 EachPair-weaker R S w [] pairs = tt
 EachPair-weaker R S w (row ∷ rows) pairs =

@@ -59,28 +59,30 @@ rows_seen-from_each stored (row ∷ rows) all =
     seen_one (lookup (nat_eq row.id) stored) row (rows_seen stored (map (λ row. row.id) rows)) all.0
     ∙ ap (λ rs. row ∷ rs) (rows_seen-from_each stored rows all.1)
 
-module _ (stored : List (ℕ × StoredRow)) (order : List ℕ) (kids : List (KidKey
-    × ℕ)) (pages : List Page) (kept : IsKept stored order kids pages) where
+module _ (stored : List (ℕ × StoredRow)) (order : List ℕ) (pages : List Page)
+    (ids : map (λ row. row.id) pages ≡ order) (found : (id : ℕ) →
+    row_with id pages ≡ option_map seen (lookup (nat_eq id) stored))
+    (own_ids : EachPair HasOtherId pages) where
   -- each row is what is kept of its id
-  pub kept_of_own_id : AllByRecursion (λ row. option_map seen (lookup (nat_eq row.id) stored) ≡ Some
-      row) pages
-  kept_of_own_id =
+  pub kept_of_ids : AllByRecursion (λ row. option_map seen (lookup (nat_eq row.id) stored) ≡ Some row)
+      pages
+  kept_of_ids =
       All-weaker (λ row. row_with row.id pages ≡ Some row) (λ row. option_map seen (lookup (nat_eq
-      row.id) stored) ≡ Some row) (λ row h. sym (kept.found row.id) ∙ h) pages (found_by_own_id
-      pages kept.are_pages.own_ids)
+      row.id) stored) ≡ Some row) (λ row h. sym (found row.id) ∙ h) pages (found_by_own_id pages
+      own_ids)
 
-  -- what is seen of the order is what is kept
-  pub rows_seen-kept : rows_seen stored order ≡ pages
-  rows_seen-kept = rw (← kept.ids) (rows_seen-from_each stored pages kept_of_own_id)
+  -- what is seen of the order is what is found by id
+  pub rows_seen-ids : rows_seen stored order ≡ pages
+  rows_seen-ids = rw (← ids) (rows_seen-from_each stored pages kept_of_ids)
 
   -- a page stands in front where its row does
-  pub fronts : (front : Front) (path : List ℕ) →
+  pub fronts_of_ids : (front : Front) (path : List ℕ) →
       AllByRecursion (λ row. is_front front path stored row.id ≡ front_test front path row.path)
       pages
-  fronts front path =
+  fronts_of_ids front path =
       All-weaker (λ row. option_map seen (lookup (nat_eq row.id) stored) ≡ Some row) (λ row.
       is_front front path stored row.id ≡ front_test front path row.path) (λ row h. by (lookup
-      (nat_eq row.id) stored) row h) pages kept_of_own_id
+      (nat_eq row.id) stored) row h) pages kept_of_ids
     where
       by : (o : Option StoredRow) (row : Page) → option_map seen o ≡ Some row →
           option_map_or (λ page. front_test front path (steps_of page.row.path)) o false ≡
@@ -88,6 +90,31 @@ module _ (stored : List (ℕ × StoredRow)) (order : List ℕ) (kids : List (Kid
       by None row h = cc
       by (Some page) row h = let one : seen page ≡ row = cc in
           ap (λ (r : Page). front_test front path r.path) one
+
+  -- how many pages stand in front of a path
+  pub place_of_ids : (front : Front) (path : List ℕ) →
+      leading (is_front front path stored) order ≡ leading (λ row. front_test front path row.path)
+      pages
+  place_of_ids front path =
+      rw (← ids) (leading-map (λ (row : Page). row.id) (is_front front path stored) (λ row.
+      front_test front path row.path) pages (fronts_of_ids front path))
+
+module _ (stored : List (ℕ × StoredRow)) (order : List ℕ) (kids : List (KidKey
+    × ℕ)) (pages : List Page) (kept : IsKept stored order kids pages) where
+  -- each row is what is kept of its id
+  pub kept_of_own_id : AllByRecursion (λ row. option_map seen (lookup (nat_eq row.id) stored) ≡ Some
+      row) pages
+  kept_of_own_id = kept_of_ids stored order pages kept.ids kept.found kept.are_pages.own_ids
+
+  -- what is seen of the order is what is kept
+  pub rows_seen-kept : rows_seen stored order ≡ pages
+  rows_seen-kept = rows_seen-ids stored order pages kept.ids kept.found kept.are_pages.own_ids
+
+  -- a page stands in front where its row does
+  pub fronts : (front : Front) (path : List ℕ) →
+      AllByRecursion (λ row. is_front front path stored row.id ≡ front_test front path row.path)
+      pages
+  fronts = fronts_of_ids stored order pages kept.ids kept.found kept.are_pages.own_ids
 
 -- the rows before a path stand first
 before_first : (path : List ℕ) (rows : List Page) → EachPair IsBefore rows →
@@ -155,7 +182,7 @@ All-find P test (y ∷ xs) x all h = by (test y) h (All-find P test xs x all.1)
     by false e more = more e
 
 -- a list of rows that pass is no longer than the list
-length-filter-le : {X : Type 0} (test : X → Bool) (xs : List X) → length (filter test xs) ≤ length xs
+pub length-filter-le : {X : Type 0} (test : X → Bool) (xs : List X) → length (filter test xs) ≤ length xs
 length-filter-le test [] = omega arith
 length-filter-le test (x ∷ xs) = by (test x) (length-filter-le test xs)
   where
@@ -231,22 +258,30 @@ parent_at path text place pages order some is at =
     rw (at, is) (ap (λ o. option_map (λ (r : Page). r.id) o) (found_place (above path) pages order
     (some_from_map (λ (r : Page). r.id) _ some)))
 
+-- those that come before a path stand first, in an order of rows
+pub first_of_ids : (stored : List (ℕ × StoredRow)) (order : List ℕ) (pages : List Page) →
+    map (λ row. row.id) pages ≡ order →
+    ((id : ℕ) → row_with id pages ≡ option_map seen (lookup (nat_eq id) stored)) →
+    EachPair HasOtherId pages → EachPair IsBefore pages → (path : List ℕ) →
+    PassFirst (is_front Before path stored) order
+first_of_ids stored order pages ids found own_ids in_order path =
+    rw (← ids) (PassFirst-map (λ (row : Page). row.id) (is_front Before path stored) (λ row.
+    comes_before row.path path) pages (fronts_of_ids stored order pages ids found own_ids Before
+    path) (before_first path pages in_order))
+
 module _ (stored : List (ℕ × StoredRow)) (order : List ℕ) (kids : List (KidKey
     × ℕ)) (pages : List Page) (kept : IsKept stored order kids pages) where
   -- how many pages stand in front of a path
   pub place_found : (front : Front) (path : List ℕ) →
       leading (is_front front path stored) order ≡ leading (λ row. front_test front path row.path)
       pages
-  place_found front path =
-      rw (← kept.ids) (leading-map (λ (row : Page). row.id) (is_front front path stored) (λ row.
-      front_test front path row.path) pages (fronts stored order kids pages kept front path))
+  place_found = place_of_ids stored order pages kept.ids kept.found kept.are_pages.own_ids
 
   -- those that come before a path stand first
   pub fronts_first : (path : List ℕ) → PassFirst (is_front Before path stored) order
-  fronts_first path =
-      rw (← kept.ids) (PassFirst-map (λ (row : Page). row.id) (is_front Before path stored) (λ row.
-      comes_before row.path path) pages (fronts stored order kids pages kept Before path)
-      (before_first path pages kept.are_pages.in_order))
+  fronts_first =
+      first_of_ids stored order pages kept.ids kept.found kept.are_pages.own_ids
+      kept.are_pages.in_order
 
   -- a page that is kept has room for one child more
   pub few_kids : (id : ℕ) → IfSome (lookup (nat_eq id) stored) (λ page. page.row.numchild + 1 < 4294967296)

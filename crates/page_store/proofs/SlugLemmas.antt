@@ -87,7 +87,7 @@ same_row id (one ∷ rows) row own found =
     by false e h more = ((λ test. absurd cc), more h)
 
 -- where the changed row alone passes, it is what is found
-find-changed_one : (test : Page → Bool) (id : ℕ) (change : Page → Page) (rows : List Page) (row :
+pub find-changed_one : (test : Page → Bool) (id : ℕ) (change : Page → Page) (rows : List Page) (row :
     Page) → row_with id rows ≡ Some row → test (change row) ≡ true →
     AllByRecursion (λ other. nat_eq other.id id ≡ false → test other ≡ false) rows →
     find test (changed id change rows) ≡ Some (change row)

@@ -4,3 +4,5 @@ pub mod Kept
 pub mod Search
 pub mod KidWalk
 pub mod Changes
+pub mod Relabelling
+pub mod Settling

@@ -89,7 +89,7 @@ impl Rows {
 }
 
 /// The text of a path without its last step.
-fn above_text(text: &[u8]) -> ArrayVec<u8, MAX_TEXT>
+pub(crate) fn above_text(text: &[u8]) -> ArrayVec<u8, MAX_TEXT>
     requires path { IsPathText text.now }
     requires below { 1 < length (steps_of text.now) }
     ensures path { IsPathText result.items }
@@ -105,7 +105,7 @@ fn above_text(text: &[u8]) -> ArrayVec<u8, MAX_TEXT>
 }
 
 /// Raises the child count of a page by one.
-fn add_kid(stored: &mut IndexMap<PageId, StoredRow>, parent: PageId)
+pub(crate) fn add_kid(stored: &mut IndexMap<PageId, StoredRow>, parent: PageId)
     requires { IfSome (lookup (nat_eq parent) stored.old.entries) (λ page. page.row.numchild + 1 < 2 ^ 32) }
     ensures others { (id : ℕ) → lookup (nat_eq id) stored.new.entries
         ≡ (if nat_eq parent id then option_map kid_added (lookup (nat_eq parent) stored.old.entries)

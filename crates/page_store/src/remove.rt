@@ -81,7 +81,7 @@ fn take_rows(stored: &mut IndexMap<PageId, StoredRow>, ids: &[PageId])
 }
 
 /// Lowers the child count of a page by one.
-fn take_kid(stored: &mut IndexMap<PageId, StoredRow>, parent: PageId)
+pub(crate) fn take_kid(stored: &mut IndexMap<PageId, StoredRow>, parent: PageId)
     ensures others { (id : ℕ) → lookup (nat_eq id) stored.new.entries
         ≡ (if nat_eq parent id then option_map kid_taken (lookup (nat_eq parent) stored.old.entries)
         else lookup (nat_eq id) stored.old.entries) }

@@ -1,5 +1,5 @@
 -- The rows of a page and of all below it stand together among the rows of a tree.
-use Rattle.std.proofs.Common.{◌≡◌, ◌<◌, ◌≤◌, ◌+◌, ◌-◌, None, ℕ, Bool, true, false, cond, List, [], ◌∷◌, ◌++◌, map, Option, Some, nat_eq, ◌||◌, refl, sym, ap, ◌∙◌, subst, arith, append_assoc}
+use Rattle.std.proofs.Common.{◌≡◌, ◌<◌, ◌+◌, ◌-◌, None, ℕ, Bool, true, false, cond, List, [], ◌∷◌, ◌++◌, map, Option, Some, nat_eq, ◌||◌, refl, sym, ap, ◌∙◌, subst, arith, append_assoc}
 use Rattle.std.specs.List.{AllByRecursion}
 use Rattle.std.proofs.lemmas.Bool.Decides.{nat_tests}
 use Rattle.std.proofs.lemmas.List.{append-nil, map-append}
@@ -13,7 +13,7 @@ use Rattle.page_store.proofs.AllLemmas.{All-append, All-weaker}
 use Rattle.path_moves.specs.Cuts.{lower_row, lower_count, with_count}
 use Rattle.path_moves.proofs.Apart.{Lacks, AreApart, kids_of-lacks, node_of-lacks, without-lacks, graft-lacks, lacks_after, lacks_below, rows_parents, rows_ids, AllIds-turned}
 use Rattle.path_moves.proofs.Lists.{All-parts}
-use Rattle.path_moves.proofs.Paths.{begins-append, begins-other_step, begins-longer, GoesOn, rows_go_on, earlier_out}
+use Rattle.path_moves.proofs.Paths.{begins-other_step, begins-longer, rows_go_on, earlier_out}
 
 -- one where the test passes, and else none
 abbrev pub one_if : Bool → ℕ

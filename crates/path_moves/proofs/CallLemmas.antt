@@ -1,9 +1,7 @@
 -- What the calls find in the rows, as far as the tree of the rows goes.
 use Rattle.std.proofs.Common.{◌≡◌, ℕ, suc, ◌+◌, ◌-◌, ◌<◌, ◌≤◌, Bool, true, false, cond, nat_eq, ◌||◌, List, [], ◌∷◌, ◌++◌, Option, Some, None, IsSome, is_some, map, find, filter, length, take, drop, slice_get, refl, ap, sym, ◌∙◌, subst, arith, rules, add-one}
 use Prim.Native.Nat.{zero}
-use Rattle.std.specs.List.{AllByRecursion}
 use Rattle.std.specs.Option.{option_map, IfSome}
-use Rattle.std.proofs.lemmas.Bool.Decides.{nat_tests}
 use Rattle.std.proofs.lemmas.List.{append-nil, map-append}
 use Rattle.page_tree.specs.Tree.{Forest, bare, grown, has_page, node_of, kids_of, ids_of, or_else}
 use Rattle.page_tree.specs.Rows.{Row, rows_below, rows_of, row_with, child_url}

@@ -1,16 +1,14 @@
 -- A page with all below it, put among siblings: its rows with their beginnings replaced, and the
 -- rows
 -- of each later sibling with its step one higher.
-use Rattle.std.proofs.Common.{◌≡◌, ◌+◌, ℕ, Bool, true, false, cond, List, [], ◌∷◌, ◌++◌, map, length, Option, Some, nat_eq, refl, sym, ap, ◌∙◌, arith, append_assoc}
+use Rattle.std.proofs.Common.{◌≡◌, ◌+◌, ℕ, Bool, true, false, cond, List, [], ◌∷◌, ◌++◌, map, length, Option, Some, nat_eq, refl, ap, ◌∙◌, arith, append_assoc}
 use Rattle.std.proofs.lemmas.Bool.Decides.{nat_tests}
 use Rattle.std.proofs.lemmas.List.{append-nil, map-append}
 use Rattle.page_tree.specs.Tree.{Forest, bare, grown, placed, raised, put_last, put_before, last_step}
 use Rattle.page_tree.specs.Walk.{SLASH, kid_count}
 use Rattle.page_tree.specs.Rows.{Row, rows_below, child_url}
-use Rattle.step_path.specs.Path.{relabelled}
 use Rattle.step_path.proofs.PathLemmas.{relabelled-append}
-use Rattle.path_moves.specs.Cuts.{is_sibling, relabel_row, raise_row, raised_path, moved_rows}
-use Rattle.path_moves.proofs.Block.{Block, cons_both}
+use Rattle.path_moves.specs.Cuts.{is_sibling, relabel_row, raise_row, raised_path}
 
 -- a raised step behind other steps
 pub raised_path-append : (path more : List ℕ) (s : ℕ) →

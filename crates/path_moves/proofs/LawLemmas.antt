@@ -1,18 +1,18 @@
 -- What a cut and a graft are on the rows of a whole tree.
-use Rattle.std.proofs.Common.{◌≡◌, ℕ, ◌+◌, Bool, true, false, not, cond, nat_eq, List, [], ◌∷◌, ◌++◌, Option, Some, None, is_some, map, find, filter, take, drop, length, refl, ap, sym, ◌∙◌, subst, arith, append_assoc, length-append}
+use Rattle.std.proofs.Common.{◌≡◌, ℕ, ◌+◌, Bool, true, false, not, cond, nat_eq, List, [], ◌∷◌, ◌++◌, Some, None, is_some, map, find, take, drop, length, refl, ap, sym, ◌∙◌, arith, append_assoc, length-append}
 use Rattle.std.specs.List.{AllByRecursion}
 use Rattle.std.proofs.lemmas.Bool.Decides.{nat_tests}
 use Rattle.std.proofs.lemmas.List.{append-nil, map-append}
 use Rattle.std.proofs.lemmas.List.Elements.{filter-append}
 use Rattle.std.proofs.Math.Seq.{take-append_seam, drop-append_seam}
-use Rattle.page_tree.specs.Tree.{Forest, bare, grown, End, AllIds, AreRising, HasDistinctIds, has_page, kids_of, node_of, placed, step_needed, without, graft, moved, put_last, last_step}
+use Rattle.page_tree.specs.Tree.{Forest, bare, grown, End, AllIds, AreRising, has_page, kids_of, node_of, placed, step_needed, without, graft, moved, put_last, last_step}
 use Rattle.page_tree.specs.Walk.{kid_count}
-use Rattle.page_tree.specs.Rows.{Row, child_url, row_with, rows_below, rows_of, raise_count, with_kid, is_parent}
-use Rattle.page_tree.proofs.RowLemmas.{has_page-rows, find-append}
+use Rattle.page_tree.specs.Rows.{child_url, row_with, rows_below, rows_of, raise_count, with_kid, is_parent}
+use Rattle.page_tree.proofs.RowLemmas.{has_page-rows}
 use Rattle.site_types.specs.declared.body.Body.{Body}
 use Rattle.page_store.specs.Search.{begins, leading}
 use Rattle.page_store.proofs.PathOrder.{begins-self, begins-BeginsWith}
-use Rattle.page_store.proofs.AllLemmas.{All-append, All-weaker, All-always}
+use Rattle.page_store.proofs.AllLemmas.{All-append, All-weaker}
 use Rattle.path_moves.specs.Subtree.{subtree_rows}
 use Rattle.path_moves.specs.Cuts.{with_count, lower_count, other_rows, cut_rows, relabel_row, moved_rows, end_of, put_behind}
 use Rattle.path_moves.specs.Laws.{Page, IsTree}

@@ -1,8 +1,7 @@
 -- Paths below one page: those below different kids, and those that go on.
-use Rattle.std.proofs.Common.{◌≡◌, ◌<◌, ◌≤◌, ◌+◌, ℕ, Bool, true, false, List, [], ◌∷◌, ◌++◌, Option, Some, nat_eq, ◌&&◌, refl, sym, ap, ◌∙◌, arith, append_assoc}
+use Rattle.std.proofs.Common.{◌≡◌, ◌<◌, ◌≤◌, ℕ, true, false, List, [], ◌∷◌, ◌++◌, Option, Some, nat_eq, refl, ◌∙◌, arith, append_assoc}
 use Rattle.std.specs.List.{AllByRecursion}
 use Rattle.std.proofs.lemmas.Bool.Decides.{nat_tests}
-use Rattle.std.proofs.lemmas.List.{append-nil}
 use Rattle.page_tree.specs.Tree.{Forest, bare, grown, AreRising, last_step}
 use Rattle.page_tree.specs.Rows.{Row, rows_below, child_url}
 use Rattle.page_tree.proofs.RootLemmas.{le-last_step}

@@ -1,14 +1,14 @@
 -- What a graft at the first place and one before a kid are on the rows of a whole tree.
-use Rattle.std.proofs.Common.{◌≡◌, ℕ, suc, ◌+◌, Bool, true, false, not, cond, nat_eq, List, [], ◌∷◌, ◌++◌, Option, Some, None, map, filter, take, drop, length, refl, ap, sym, ◌∙◌, subst, arith, append_assoc, length-append}
+use Rattle.std.proofs.Common.{◌≡◌, ℕ, suc, ◌+◌, true, false, not, cond, nat_eq, List, [], ◌∷◌, ◌++◌, Some, None, map, take, drop, length, refl, ap, sym, ◌∙◌, subst, arith, append_assoc, length-append}
 use Rattle.std.specs.List.{AllByRecursion}
 use Rattle.std.proofs.lemmas.Bool.Decides.{nat_tests}
-use Rattle.std.proofs.lemmas.List.{append-nil, map-append}
+use Rattle.std.proofs.lemmas.List.{map-append}
 use Rattle.std.proofs.Math.Seq.{take-append_seam, drop-append_seam}
 use Rattle.page_tree.specs.Tree.{Forest, bare, grown, First, Before, kids_of, placed, raised, put_before, graft}
 use Rattle.page_tree.specs.Walk.{kid_count}
-use Rattle.page_tree.specs.Rows.{Row, child_url, row_with, rows_below, rows_of, raise_count, with_kid, is_parent}
+use Rattle.page_tree.specs.Rows.{child_url, row_with, rows_below, rows_of, raise_count, with_kid, is_parent}
 use Rattle.site_types.specs.declared.body.Body.{Body}
-use Rattle.page_store.specs.Search.{begins, leading}
+use Rattle.page_store.specs.Search.{begins}
 use Rattle.page_store.proofs.PathOrder.{begins-self, begins-BeginsWith}
 use Rattle.page_store.proofs.AllLemmas.{All-append, All-weaker}
 use Rattle.path_moves.specs.Cuts.{with_count, raise_row, end_of, put_from, place_of, is_sibling}
@@ -17,7 +17,7 @@ use Rattle.path_moves.proofs.Apart.{AreApart-distinct}
 use Rattle.path_moves.proofs.Block.{Block}
 use Rattle.path_moves.proofs.Lists.{filter_middle, All-parts}
 use Rattle.path_moves.proofs.SubtreeLemmas.{rows_begin}
-use Rattle.path_moves.proofs.GraftLemmas.{Siblings, siblings_of, kid_count-raised, rows_below-placed, rows_below-raised}
+use Rattle.path_moves.proofs.GraftLemmas.{siblings_of, kid_count-raised, rows_below-placed, rows_below-raised}
 use Rattle.path_moves.proofs.LawLemmas.{leading-front, other_id, raise-others, block_in}
 
 -- rows put in among those that begin with a path
@@ -60,7 +60,7 @@ put_from-parts path new front y early late behind n out inside rest place =
     (append_assoc front (y ∷ early) (new ++ (map (raise_row (length path)) late ++ behind)))
 
 -- a row with an id that no other row has stands at one place
-same_place : (id : ℕ) (xs : List Page) (x : Page) (ys front : List Page) (top : Page)
+pub same_place : (id : ℕ) (xs : List Page) (x : Page) (ys front : List Page) (top : Page)
     (behind : List Page) →
     xs ++ x ∷ ys ≡ front ++ top ∷ behind → x.id ≡ id →
     AllByRecursion (λ (row : Page). row.id ≡ id → ⊥) front →
@@ -79,7 +79,7 @@ same_place id (z ∷ xs) x ys (y ∷ front) top behind same own before after =
     (ap suc more.0, more.1)
 
 -- the place of a page is behind the rows before its block
-place_in_block : (id : ℕ) (tree : Forest Body) (b : Block id 0 None [] [] tree) →
+pub place_in_block : (id : ℕ) (tree : Forest Body) (b : Block id 0 None [] [] tree) →
     place_of id (rows_of tree) ≡ length b.front
 place_in_block id tree b =
     let own : nat_eq b.top.id id ≡ true = (let same = b.id_is in grind (arith, nat_tests)) in
@@ -163,7 +163,7 @@ first_is parent id step slug body kids tree top is found =
     rw (block.1, raised_rows_are parent tree b) (grafted ∙ sym put)
 
 -- a step behind one path is told by the whole path
-same_step : (path : List ℕ) (s t : ℕ) → path ++ s ∷ [] ≡ path ++ t ∷ [] → s ≡ t
+pub same_step : (path : List ℕ) (s t : ℕ) → path ++ s ∷ [] ≡ path ++ t ∷ [] → s ≡ t
 same_step [] s t same = cc
 same_step (x ∷ path) s t same = same_step path s t (let rest : path ++ s ∷ [] ≡ path
     ++ t ∷ [] = cc in rest)
@@ -246,3 +246,46 @@ before_is parent sibling id step slug body kids tree top kid is found found_kid 
     let put = put_from-parts b.top.path new b.front (with_kid b.top) early late b.behind
     (place_of sibling (rows_of tree)) b.front_out inside b.behind_out place in
     rw (block.1, raised_are, at_is) (grafted ∙ sym put)
+
+-- the path of a kid's row is its parent's with one step more
+pub kid_step : (parent sibling : ℕ) (tree : Forest Body) (top kid : Page) → IsTree tree →
+    row_with parent (rows_of tree) ≡ Some top → row_with sibling (rows_of tree) ≡ Some kid →
+    is_sibling sibling (kids_of parent tree) ≡ true →
+    (at : ℕ) × (kid.path ≡ top.path ++ at ∷ [])
+kid_step parent sibling tree top kid is found found_kid there =
+    let apart = AreApart-distinct tree is.distinct in
+    let block = block_in tree parent top is.rising apart found in
+    let b = block.0 in
+    let own_block = block_in tree sibling kid is.rising apart found_kid in
+    let k = own_block.0 in
+    let sib = siblings_of sibling (kids_of parent tree) there in
+    let early = sib.earlier_rows (Some parent) b.top.path b.top.url in
+    let first : Page = record {
+      id = sibling;
+      parent = Some parent;
+      path = b.top.path ++ sib.step ∷ [];
+      url = child_url b.top.url sib.slug;
+      slug = sib.slug;
+      numchild = kid_count sib.kids;
+      body = sib.body;
+    } in
+    let others = rows_below (Some sibling) (b.top.path ++ sib.step ∷ [])
+    (child_url b.top.url sib.slug) sib.kids
+    ++ rows_below (Some parent) b.top.path b.top.url sib.rest in
+    let rows_are : rows_of tree ≡ (b.front ++ (b.top ∷ early)) ++ (first ∷ (others ++ b.behind)) =
+    rw (
+      b.rows_are,
+      sib.rows_are (Some parent) b.top.path b.top.url,
+      sib.later_is,
+      append_assoc early (first ∷ others) b.behind,
+      append_assoc b.front (b.top ∷ early) (first ∷ (others ++ b.behind)),
+    ) refl in
+    let one = same_place sibling (b.front ++ (b.top ∷ early)) first (others ++ b.behind) k.front
+    k.top
+    (rows_below (Some sibling) k.top.path k.top.url (kids_of sibling tree) ++ k.behind)
+    (sym rows_are ∙ k.rows_are) refl k.front_ids (All-append _ _ _ k.inner_ids k.behind_ids) in (
+      sib.step,
+      ap (λ (r : Page). r.path) own_block.1
+          ∙ (ap (λ (r : Page). r.path) (sym one.1)
+          ∙ ap (λ (r : Page). r.path ++ sib.step ∷ []) (sym block.1)),
+    )

@@ -1,14 +1,14 @@
 -- The rows that begin with a page's path: its own, those of all below it, and the last of them.
-use Rattle.std.proofs.Common.{◌≡◌, ℕ, suc, ◌+◌, ◌-◌, ◌<◌, ◌≤◌, Bool, true, false, List, [], ◌∷◌, ◌++◌, Option, Some, None, is_some, length, take, drop, slice_get, refl, ap, sym, ◌∙◌, subst, arith, append_assoc, inl, inr}
+use Rattle.std.proofs.Common.{◌≡◌, ℕ, suc, ◌+◌, ◌-◌, ◌<◌, Bool, true, false, List, [], ◌∷◌, ◌++◌, Option, Some, None, is_some, length, take, drop, slice_get, refl, ap, sym, ◌∙◌, subst, arith, append_assoc, inl, inr}
 use Prim.Native.Nat.{zero}
 use Rattle.std.specs.List.{AllByRecursion}
 use Rattle.std.specs.Option.{option_map}
 use Rattle.std.proofs.lemmas.Option.{slice_get_past}
-use Rattle.page_tree.specs.Tree.{Forest, bare, grown, End, has_page, kids_of, last_step, step_needed}
+use Rattle.page_tree.specs.Tree.{Forest, bare, grown, has_page, kids_of, last_step}
 use Rattle.page_tree.specs.Walk.{path_of}
 use Rattle.page_tree.specs.Rows.{Row, rows_below, rows_of, row_with, child_url}
 use Rattle.page_tree.proofs.RowLemmas.{has_page-rows}
-use Rattle.page_tree.proofs.WalkLemmas.{LastRow, last_row}
+use Rattle.page_tree.proofs.WalkLemmas.{last_row}
 use Rattle.step_path.specs.Path.{BeginsWith}
 use Rattle.site_types.specs.declared.body.Body.{Body}
 use Rattle.page_store.specs.PageRows.{IsRange}
@@ -25,7 +25,7 @@ use Rattle.path_moves.proofs.Lists.{All-parts, filter_middle, filter_window, sli
 use Rattle.path_moves.proofs.SiteTree.{rising_tree, apart_tree}
 
 -- a test that would lead to nothing fails
-fails_from : (t : Bool) → (t ≡ true → ⊥) → t ≡ false
+pub fails_from : (t : Bool) → (t ≡ true → ⊥) → t ≡ false
 fails_from true h = absurd (h refl)
 fails_from false h = refl
 

@@ -1,6 +1,6 @@
 -- Where a page goes that is appended below another: behind the last kid, as `add_child` of
 -- django-treebeard 4.7, MP_Node.
-use Rattle.std.specs.Prelude.{◌≡◌, ℕ, List, [], ◌∷◌, ◌++◌, length, nat_lt, if◌then◌else◌}
+use Rattle.std.specs.Prelude.{ℕ, List, [], ◌∷◌, ◌++◌, length, nat_lt, if◌then◌else◌}
 use Rattle.std.specs.Prelude.{Result, Ok, Err}
 use Rattle.page_tree.specs.Tree.{Forest, End, kids_of, step_needed}
 use Rattle.page_tree.specs.Walk.{path_of}

@@ -1,10 +1,12 @@
 -- What a cut and a graft are on the rows of a tree, each proved in src/laws.rt: the rows of a page
 -- and of all below it are taken out and put in behind those of its new parent, with the beginnings
 -- of their paths and URLs replaced.
-use Rattle.std.specs.Prelude.{◌≡◌, ℕ, ◌+◌, true, List, [], ◌∷◌, ◌++◌, Some}
+use Rattle.std.specs.Prelude.{◌≡◌, ℕ, ◌+◌, true, List, [], ◌∷◌, ◌++◌, Some, map, nat_eq}
+use Rattle.std.specs.List.{IsDistinct}
 use Rattle.page_tree.specs.Tree.{Forest, bare, grown, First, Before, End, AreRising, HasDistinctIds, kids_of, node_of, placed, step_needed, without, graft, moved}
 use Rattle.page_tree.specs.Rows.{Row, child_url, row_with, rows_below, rows_of, raise_count}
 use Rattle.site_types.specs.declared.body.Body.{Body}
+use Rattle.tree_model.specs.Changes.{changed_urls, with_urls}
 use Rattle.path_moves.specs.Subtree.{subtree_rows}
 use Rattle.path_moves.specs.Cuts.{cut_rows, moved_rows, put_behind, put_from, place_of, is_sibling}
 
@@ -87,3 +89,10 @@ GraftBeforeRaises =
     ≡ put_from top.path (place_of sibling (rows_of tree))
     (rows_below (Some parent) top.path top.url (placed (grown id step slug body kids bare) at bare))
     (raise_count (Some parent) (rows_of tree))
+
+-- With the URLs that change listed, the later rows are as they are, where no two of them have one
+-- id: what is not listed has the URL that it had before.
+abbrev pub ChangedUrlsAreComplete : Type 0
+ChangedUrlsAreComplete =
+    (before after : List Page) → IsDistinct nat_eq (map (λ row. row.id) after) →
+    with_urls (changed_urls before after) before after ≡ after

@@ -45,7 +45,7 @@ fn below(path: &Path, last: &Path) -> Result<Path, PathFault>
 }
 
 /// The step behind the last kid, or `None` exactly where that is above the greatest step.
-fn next_step(path: &Path, last: &Path) -> Option<Step>
+pub(crate) fn next_step(path: &Path, last: &Path) -> Option<Step>
     ensures { SomeIff result (step_after path.now last.now ≤ LAST_STEP) (step_after path.now last.now) }
 {
     match last.step_at(path.depth() as usize) {

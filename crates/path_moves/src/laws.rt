@@ -1,5 +1,5 @@
-//! What cuts and grafts are on rows. Each is a function that does nothing: its contract is the law.
-ghost use Rattle.path_moves.specs.Laws.{CutTakesRowsOut, GraftPutsRowsIn, RowsAreRelabelled, MoveRelabelsRows, GraftAtFirstRaises, GraftBeforeRaises};
+//! What cuts, grafts and moves are on rows. Each is a function that does nothing: its contract is the law.
+ghost use Rattle.path_moves.specs.Laws.{CutTakesRowsOut, GraftPutsRowsIn, RowsAreRelabelled, MoveRelabelsRows, GraftAtFirstRaises, GraftBeforeRaises, ChangedUrlsAreComplete};
 
 /// A cut takes out the rows that begin with the page's path, and lowers its parent's child count.
 pub fn cut_takes_rows_out()
@@ -29,4 +29,9 @@ pub fn graft_at_first_raises()
 /// A graft before a kid raises the step of that kid and of each later one.
 pub fn graft_before_raises()
     ensures { GraftBeforeRaises }
+{}
+
+/// The URLs that change from some rows to others, with those from before, are all of the later ones.
+pub fn changed_urls_are_complete()
+    ensures { ChangedUrlsAreComplete }
 {}

@@ -3,14 +3,23 @@
 #![tactic(auto)]
 
 mod append;
+mod applying;
 mod delete;
 mod fault;
 pub mod laws;
 mod look;
+mod moving;
+mod relabel;
+mod spot;
+mod standing;
 
 pub use append::plan_append;
+pub use applying::apply;
 pub use delete::plan_delete;
 pub use fault::PathFault;
+pub use moving::{is_beside, new_parent, plan_move};
 
 #[cfg(test)]
 mod tests;
+#[cfg(test)]
+mod tests_apply;

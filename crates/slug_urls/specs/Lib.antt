@@ -1,2 +1,5 @@
 pub mod Urls
 pub mod Descent
+pub mod Plans
+pub mod Flat
+pub mod Laws

@@ -2,10 +2,17 @@
 #![tactic(auto)]
 
 mod downward;
+mod fault;
+pub mod laws;
+mod plan;
 mod upward;
 
 pub use downward::walk;
+pub use fault::UrlFault;
+pub use plan::plan_urls;
 pub use upward::url_of;
 
+#[cfg(test)]
+mod sample;
 #[cfg(test)]
 mod tests;

@@ -35,5 +35,6 @@ pub answers_fault : (site : Site) (tally : Tally World) (request : Request) (mom
     IfOk r (λ answer. Answers tally (exchange tally request moment) answer site)
 answers_fault site tally request moment fault (Ok answer) ready is told =
     answers_telling site tally _ answer
-    (exchange_fault tally request moment fault (is told.1) ∙ ap telling (sym told.0)) ready
+    (exchange_fault tally request moment fault (is told.1) ∙ ap telling (sym told.0)) ready.stands
+    ready.orderly
 answers_fault site tally request moment fault (Err none) ready is told = tt

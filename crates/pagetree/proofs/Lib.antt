@@ -1,8 +1,4 @@
 pub mod AnswerLemmas
-pub mod CreationLemmas
-pub mod CommitLemmas
-pub mod RevisionLemmas
-pub mod CardLemmas
 pub mod ExchangeLemmas
 pub mod HeldLemmas
 pub mod SessionLemmas

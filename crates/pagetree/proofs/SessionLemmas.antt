@@ -1,10 +1,9 @@
 -- How a session begins, and how its ends follow from what stands.
-use Rattle.std.proofs.Common.{◌≡◌, ◌≤◌, ◌<◌, ◌+◌, ◌-◌, ℕ, Bool, List, [], ◌∷◌, Option, Some, None, Err, length, drop, refl, sym, ap, subst, arith, inl, inr}
+use Rattle.std.proofs.Common.{◌≡◌, ◌≤◌, ◌<◌, ◌+◌, ℕ, Bool, List, [], ◌∷◌, Option, Some, None, Err, length, drop, refl, sym, ap, subst, arith, inl, inr}
 use Rattle.std.proofs.lemmas.List.{append-nil}
 use Rattle.outside_world.specs.Source.{with_front}
 use Rattle.outside_world.specs.Sink.{with_back}
-use Rattle.page_tree.specs.Tree.{bare}
-use Rattle.site_types.specs.RootBody.{root_body}
+use Rattle.site_model.proofs.StartLemmas.{new_part_is_sound}
 use Rattle.http_model.specs.Requests.{Request, whole, refused, IsFront}
 use Rattle.wire_model.specs.declared.words.TheConstants.{ANSWER_LIMIT}
 use Rattle.wire_model.specs.Exchange.{tally_of}
@@ -41,18 +40,10 @@ first_so_far site left taken coming stands = record {
   follows = λ more. (refl, refl);
   left_is = front_of_nothing left;
   stands = stands abc_digest;
-  young = record {
-    root = root_body;
-    kids = bare;
-    tree = refl;
-    apart = tt;
-    below = tt;
-    rising = tt;
-    steps = omega arith;
-    next_page = refl;
-    next_revision = refl;
-    numbered = tt;
-    count = refl;
+  orderly = record {
+    sound = new_part_is_sound abc_digest;
+    next_page = omega arith;
+    next_revision = omega arith;
   };
   number = omega arith;
   count_is = refl;
@@ -92,7 +83,7 @@ module _ (site : Site) (held : List ℕ) (count : ℕ) (left_first left : Option
   pub is_ready : count < ANSWER_LIMIT → IsReady site (tally_of so.past)
   is_ready few = record {
     stands = so.stands;
-    young = so.young;
+    orderly = so.orderly;
     few = let number = so.number in omega arith;
   }
 

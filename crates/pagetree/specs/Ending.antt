@@ -1,5 +1,5 @@
 -- How a session ends, and what stands when it has ended.
-use Rattle.std.specs.Prelude.{◌≡◌, ℕ, ◌+◌, ◌<◌, ◌≤◌, ◌⊎◌, true, false, List, [], ◌∷◌, ◌++◌, length, Option, Some}
+use Rattle.std.specs.Prelude.{◌≡◌, ℕ, ◌<◌, ◌≤◌, ◌⊎◌, true, false, List, [], ◌∷◌, ◌++◌, length, Option, Some}
 use Rattle.outside_world.specs.Source.{with_front}
 use Rattle.outside_world.specs.Sink.{with_back, AppendsPart}
 use Rattle.http_model.specs.Requests.{part, refused, IsFront}

@@ -4,9 +4,11 @@ ghost use Rattle.std.specs.Option.{option_copied};
 ghost use Rattle.http_wire.specs.Reading.{request_of};
 ghost use Rattle.site_history.specs.History.{Tally};
 ghost use Rattle.site_model.specs.World.{World};
+ghost use Rattle.site_types.specs.declared.command.Command.{Command as AnyCommand};
 ghost use Rattle.wire_model.specs.Cards.{card_of};
 ghost use Rattle.wire_model.specs.Exchange.{exchange, called_with, card_told};
 ghost use Rattle.wire_model.specs.Exchange as wire;
+ghost use Rattle.wire_model.specs.Laws.{HasSlug};
 ghost use Rattle.pagetree.specs.Standing.{StandsFor, IsReady, Answers};
 
 use crate::site::Site;
@@ -29,7 +31,7 @@ pub fn answer_request(
     requires { (tally : Tally World) × IsReady site.old tally }
     ensures ok { (tally : Tally World) → IsReady site.old tally
         → IfOk result (λ answer. Answers tally (exchange tally (request_of request.now) now) answer site.new) }
-    ensures err { (tally : Tally World) → StandsFor site.old tally → OnErr result (StandsFor site.new tally) }
+    ensures err { (tally : Tally World) → IsReady site.old tally → OnErr result (StandsFor site.new tally) }
 {
     match routes.to_call(alloc, request) {
         Ok(call) => answer_call(alloc, site, request.token, call, now),
@@ -58,10 +60,11 @@ fn answer_call(
     call: Call,
     now: Moment,
 ) -> Result<Answer, NoMemory>
-    requires { (tally : Tally World) × IsReady site.old tally }
+    requires ready { (tally : Tally World) × IsReady site.old tally }
+    requires slug { (command : AnyCommand) → call ≡ Call.Run command → HasSlug command }
     ensures ok { (tally : Tally World) → IsReady site.old tally
         → IfOk result (λ answer. Answers tally (called_with tally now (option_copied token.entry) call) answer site.new) }
-    ensures err { (tally : Tally World) → StandsFor site.old tally → OnErr result (StandsFor site.new tally) }
+    ensures err { (tally : Tally World) → IsReady site.old tally → OnErr result (StandsFor site.new tally) }
 {
     match call {
         // No page is live yet.

@@ -3,8 +3,10 @@
 #![tactic(auto)]
 
 mod answer;
-mod card;
-mod creation;
+#[cfg(test)]
+mod command_rows;
+#[cfg(test)]
+mod command_tests;
 mod exchange;
 mod held;
 mod laws;

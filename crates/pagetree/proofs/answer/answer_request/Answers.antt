@@ -1,7 +1,13 @@
 -- What is asked is answered.
+use Rattle.std.proofs.Common.{Ok, ap, ◌∙◌}
 use Rattle.http_wire.specs.Reading.{request_of}
+use Rattle.wire_model.proofs.SlugLemmas.{routes_give_slugs}
 use Rattle.pagetree.proofs.AnswerLemmas.{exchange_called, answers_fault}
 use Rattle.pagetree.proofs.answer.answer_request.Goals as goal
+
+pub answer_call-requires-clause-slug : goal.answer_call-requires-clause-slug
+answer_call-requires-clause-slug c = λ command is.
+    routes_give_slugs (request_of c.args.request.now) command (c.in-Ok.ensures.ok ∙ ap Ok is)
 
 pub returns-in-Ok-clause-ok : goal.returns-in-Ok-clause-ok
 returns-in-Ok-clause-ok c = λ tally ready.

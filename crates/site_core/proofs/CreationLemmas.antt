@@ -1,18 +1,15 @@
 -- A creation that no rule refuses, carried out.
-use Rattle.std.proofs.Common.{◌≡◌, ◌+◌, ◌≤◌, ℕ, true, List, [], ◌∷◌, ◌++◌, length, Option, Some, None, Result, Ok, Err, max, refl, sym, ap, subst, ◌∙◌, arith}
-use Rattle.page_tree.specs.Tree.{Forest}
+use Rattle.std.proofs.Common.{◌≡◌, ◌+◌, ℕ, List, [], ◌∷◌, ◌++◌, None, Result, Ok, Err, max, refl, sym, ap, subst, ◌∙◌}
 use Rattle.page_tree.specs.Rows.{Row, rows_of, with_row}
 use Rattle.step_path.specs.Path.{path_text, steps_of}
 use Rattle.site_types.specs.declared.body.Body.{Body}
 use Rattle.site_types.specs.declared.reply.Reply.{Reply}
 use Rattle.site_types.specs.declared.reply.Reply.TheVariants.{Page}
-use Rattle.site_types.specs.declared.refusal.Refusal.{Refusal}
-use Rattle.site_types.specs.declared.revision.Revision.{Revision}
 use Rattle.page_store.specs.PageRows.{seen_row, parent_id, IsNewRow}
 use Rattle.page_store.specs.Pages.{ArePages}
 use Rattle.path_moves.specs.Laws.{IsTree}
-use Rattle.site_model.specs.World.{TreePart, Effect}
-use Rattle.site_model.specs.Create.{create, created, fresh_body, plain_revision, page_reply}
+use Rattle.site_model.specs.World.{TreePart}
+use Rattle.site_model.specs.Create.{fresh_body, plain_revision, page_reply}
 use Rattle.site_model.specs.Step.{tree_step}
 use Rattle.site_model.specs.Sound.{IsSound, FitsPart}
 use Rattle.site_model.proofs.CreationSound.{creation_keeps_sound}
@@ -22,7 +19,7 @@ use Rattle.site_core.specs.declared.place.NewPlace.{NewPlace}
 use Rattle.site_core.specs.declared.fault.Fault.{Fault}
 use Rattle.site_core.specs.declared.fault.Fault.TheVariants.{Refused, Memory}
 use Rattle.site_core.specs.Standing.{Kept, StandsFor, IsReady, IsSame, Accepts, Runs}
-use Rattle.site_core.specs.Plans.{PlansBy, IsPlace, CanCreate, with_page, refusal_at}
+use Rattle.site_core.specs.Plans.{PlansBy, IsPlace, CanCreate, refusal_at}
 use Rattle.site_core.specs.Making.{command_of, after_creation, Creates, fresh_row}
 use Rattle.site_core.proofs.CreationRows.{row_fits, rows_with, own_found}
 use Rattle.site_core.proofs.ReplyLemmas.{reply_is}

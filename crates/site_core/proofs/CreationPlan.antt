@@ -1,23 +1,22 @@
 -- What the plan of a new page tells of the rules.
-use Rattle.std.proofs.Common.{◌≡◌, ◌⊎◌, inl, inr, ◌≤◌, ◌<◌, ◌+◌, ℕ, Bool, true, false, not, cond, ◌||◌, List, [], ◌∷◌, ◌++◌, length, Option, Some, None, is_some, Result, Ok, Err, nat_eq, nat_lt, refl, sym, ap, subst, ◌∙◌, arith}
+use Rattle.std.proofs.Common.{◌≡◌, inl, inr, ◌≤◌, ◌+◌, ℕ, Bool, true, false, not, cond, List, [], ◌∷◌, ◌++◌, length, Option, Some, None, is_some, Result, Ok, Err, nat_lt, refl, sym, ap, subst, ◌∙◌, arith}
 use Rattle.std.specs.List.{AllByRecursion, list_any}
 use Rattle.std.specs.Option.{option_map}
 use Rattle.std.proofs.lemmas.Bool.Decides.{nat_tests}
 use Rattle.page_tree.specs.Tree.{Forest, bare, grown, End, has_page, without, kids_of, kid_with_slug, step_needed}
 use Rattle.page_tree.specs.Walk.{path_of}
 use Rattle.page_tree.specs.Rows.{Row, rows_of, row_with, child_url}
-use Rattle.step_path.specs.declared.step.TheConstants.{LAST_STEP}
 use Rattle.step_path.specs.declared.path.TheConstants.{MAX_DEPTH}
 use Rattle.site_types.specs.declared.body.Body.{Body}
 use Rattle.site_types.specs.declared.refusal.Refusal.{Refusal}
 use Rattle.site_types.specs.declared.refusal.Refusal.TheVariants.{NoPage, SlugTaken, StepsFull, TooDeep, UrlTooLong}
-use Rattle.tree_model.specs.Limits.{MAX_URL, is_full, is_too_deep, has_long_url}
+use Rattle.tree_model.specs.Limits.{MAX_URL, is_full, has_long_url}
 use Rattle.tree_model.specs.Changes.{url_in}
 use Rattle.tree_model.proofs.CountLemmas.{count, once, has_counts, none_counts, not_first}
-use Rattle.path_moves.specs.Append.{path_below, appended_path}
+use Rattle.path_moves.specs.Append.{appended_path}
 use Rattle.path_moves.specs.declared.fault.PathFault.{PathFault}
 use Rattle.path_moves.specs.declared.fault.PathFault.TheVariants as paths
-use Rattle.slug_urls.specs.Plans.{UnlessMemory, planned_urls, unless_taken, urls_that_fit, new_urls, is_one_long}
+use Rattle.slug_urls.specs.Plans.{UnlessMemory, planned_urls, unless_taken, new_urls, is_one_long}
 use Rattle.slug_urls.specs.declared.fault.UrlFault.{UrlFault}
 use Rattle.slug_urls.specs.declared.fault.UrlFault.TheVariants as urls
 use Rattle.slug_urls.proofs.LawLemmas.{creation_is, long_is_new}
@@ -26,7 +25,6 @@ use Rattle.site_model.specs.Rules.{refused_if, first_of}
 use Rattle.site_model.specs.Sound.{IsSound}
 use Rattle.site_model.proofs.KidLemmas.{next_free}
 use Rattle.site_core.specs.declared.fault.Fault.{Fault}
-use Rattle.site_core.specs.declared.place.NewPlace.{NewPlace}
 use Rattle.site_core.specs.declared.fault.Fault.TheVariants as faults
 use Rattle.site_core.specs.Faults.{both_of}
 use Rattle.site_core.specs.Plans.{PlansBy, IsPlace, with_page, refusal_at}

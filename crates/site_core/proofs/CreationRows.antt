@@ -1,13 +1,13 @@
 -- A page that is made: its row may be put in, and the rows with it are those of the tree with it.
-use Rattle.std.proofs.Common.{◌≡◌, ◌<◌, ◌≤◌, ◌+◌, ◌-◌, ℕ, Bool, true, false, cond, ◌&&◌, List, [], ◌∷◌, ◌++◌, length, map, take, drop, find, Option, Some, None, IsSome, is_some, Result, Ok, Err, nat_eq, nat_lt, refl, sym, ap, subst, ◌∙◌, arith, length-append}
+use Rattle.std.proofs.Common.{◌≡◌, ◌≤◌, ◌-◌, ℕ, Bool, true, false, cond, ◌&&◌, List, [], ◌∷◌, ◌++◌, length, take, drop, find, Option, Some, None, is_some, Ok, Err, nat_eq, refl, sym, ap, subst, ◌∙◌, arith, length-append}
 use Rattle.std.specs.List.{AllByRecursion}
 use Rattle.std.specs.Option.{IfSome, option_map}
 use Rattle.std.specs.Str.{bytes_eq}
 use Rattle.std.proofs.lemmas.Bool.Decides.{nat_tests}
 use Rattle.std.proofs.lemmas.List.{take-append-drop}
-use Rattle.page_tree.specs.Tree.{Forest, bare, grown, End, AreRising, HasDistinctIds, has_page, without, kids_of, kid_with_slug, step_needed, graft}
+use Rattle.page_tree.specs.Tree.{Forest, bare, grown, End, AreRising, HasDistinctIds, has_page, kids_of, kid_with_slug, step_needed}
 use Rattle.page_tree.specs.Walk.{path_of}
-use Rattle.page_tree.specs.Rows.{Row, rows_of, row_with, rows_below, kid_named, child_url, comes_before, raise_count, is_parent, with_kid, insert_in_order, with_row}
+use Rattle.page_tree.specs.Rows.{rows_of, row_with, kid_named, child_url, comes_before, raise_count, is_parent, with_kid, insert_in_order, with_row}
 use Rattle.page_tree.proofs.RowLemmas.{has_page-rows, find-append}
 use Rattle.page_tree.proofs.RowWalkLemmas.{rows_of-walk}
 use Rattle.step_path.specs.Path.{IsPath, path_text, steps_of}
@@ -27,14 +27,14 @@ use Rattle.page_store.specs.Pages.{Page, EachPair, IsBefore, ArePages}
 use Rattle.page_store.proofs.InsertLemmas.{same_bytes, bytes_eq-self, find-raise_count}
 use Rattle.page_store.proofs.PathOrder.{comes_before-self, comes_before-not_back}
 use Rattle.page_store.proofs.SeenLemmas.{found_by_own_id, All-find}
-use Rattle.path_moves.specs.Append.{path_below, appended_path}
-use Rattle.path_moves.specs.Cuts.{put_behind, end_of}
+use Rattle.path_moves.specs.Append.{appended_path}
+use Rattle.path_moves.specs.Cuts.{end_of}
 use Rattle.path_moves.specs.Laws.{IsTree}
 use Rattle.path_moves.proofs.ApplySlugs.{found_id}
 use Rattle.path_moves.proofs.LawLemmas.{graft_is}
 use Rattle.path_moves.proofs.Lists.{EachPair-parts, All-parts}
 use Rattle.path_moves.proofs.TreePages.{rows_in_order, rows_paths}
-use Rattle.slug_urls.specs.Flat.{other_kid, taken_by}
+use Rattle.slug_urls.specs.Flat.{other_kid}
 use Rattle.slug_urls.proofs.Taken.{taken_is}
 use Rattle.site_core.specs.Plans.{with_page}
 use Rattle.site_core.proofs.CreationPlan.{without_absent}
@@ -347,7 +347,8 @@ module _ (tree : Forest Body) (are : ArePages (rows_of tree)) (is_tree : IsTree 
       })
   own_found =
       ap (row_with page) rows_after
-      ∙ (skip front (none_in front behind (ap (row_with page) both_parts ∙ raised_free (rows_of tree) id_free))
+      ∙ (skip front (none_in front behind (ap (row_with page) both_parts
+      ∙ raised_free (rows_of tree) id_free))
       ∙ (at_front ∙ (ap (λ p. Some (row_at p (child_url top.url slug))) (sym path_is)
       ∙ ap (λ u. Some (row_at path u)) (sym url_above))))
     where

@@ -1,11 +1,11 @@
 -- A deletion: the rows and the revisions that are left are those of the world after it.
-use Rattle.std.proofs.Common.{◌≡◌, ◌<◌, ◌≤◌, ◌+◌, ℕ, Bool, true, false, not, ◌||◌, cond, List, [], ◌∷◌, length, map, Option, Some, None, is_some, Ok, Err, nat_eq, max, refl, sym, ap, subst, ◌∙◌, arith}
+use Rattle.std.proofs.Common.{◌≡◌, ◌<◌, ◌≤◌, ◌+◌, ℕ, Bool, true, false, not, ◌||◌, List, [], ◌∷◌, length, map, Option, Some, None, is_some, Ok, Err, nat_eq, max, refl, sym, ap, ◌∙◌, arith}
 use Rattle.std.specs.Prelude.{filter}
 use Rattle.std.specs.List.{AllByRecursion, IsDistinct, list_any}
 use Rattle.std.proofs.lemmas.Bool.Decides.{nat_tests}
 use Rattle.std.proofs.lemmas.Map.Steps.{length-le_from_distinct_below}
 use Rattle.page_tree.specs.Tree.{Forest, bare, grown, has_page, node_of, without, ids_of, HasDistinctIds}
-use Rattle.page_tree.specs.Rows.{Row, rows_of, row_with, is_parent}
+use Rattle.page_tree.specs.Rows.{Row, rows_of, row_with}
 use Rattle.page_tree.proofs.RowLemmas.{has_page-rows}
 use Rattle.site_ids.specs.declared.ids.TheConstants.{LAST_PAGE_ID}
 use Rattle.site_types.specs.declared.body.Body.{Body}
@@ -14,19 +14,18 @@ use Rattle.site_types.specs.declared.refusal.Refusal.TheVariants.{NoPage, IsRoot
 use Rattle.site_types.specs.declared.reply.Reply.TheVariants.{Removed}
 use Rattle.site_types.specs.declared.revision.Revision.{Revision}
 use Rattle.page_store.specs.Changes.{changed, without_kid, without_range}
-use Rattle.page_store.specs.Search.{begins}
-use Rattle.path_moves.specs.Cuts.{cut_rows, lower_row, lower_count, other_rows}
+use Rattle.path_moves.specs.Cuts.{lower_row, lower_count, other_rows}
 use Rattle.path_moves.specs.Laws.{IsTree}
 use Rattle.path_moves.proofs.LawLemmas.{cut_is}
 use Rattle.tree_model.specs.Shape.{AllPages}
 use Rattle.tree_model.proofs.CountLemmas.{count, once, distinct_ids, has_counts, counts_has, none_counts, none_has, cut_counts}
 use Rattle.tree_model.proofs.PageLemmas.{AllPages-node_of}
 use Rattle.tree_model.proofs.SiblingLemmas.{all_append}
-use Rattle.site_model.specs.World.{TreePart, Effect, time_at}
-use Rattle.site_model.specs.Delete.{delete, delete_refusal, without_page, desks_gone, count_gone}
+use Rattle.site_model.specs.World.{TreePart}
+use Rattle.site_model.specs.Delete.{without_page, desks_gone, count_gone}
 use Rattle.site_model.specs.Step.{tree_step}
 use Rattle.site_model.specs.Sound.{IsSound, IsGiven}
-use Rattle.site_core.specs.Standing.{Kept, StandsFor, IsReady, Accepts}
+use Rattle.site_core.specs.Standing.{Kept, IsReady, Accepts}
 
 -- a row that is there is found
 pub some_row : (found : Option (Row Body)) → is_some found ≡ true →
@@ -163,7 +162,8 @@ pub deleted : (kept after : Kept) (part : TreePart) (now caller page gone : ℕ)
     after.time ≡ max kept.time now → after.next_page ≡ kept.next_page →
     after.next_revision ≡ kept.next_revision → gone ≡ length (ids_of (node_of page part.tree)) →
     Accepts part caller now (Delete page) (Removed gone) after
-deleted kept after part now caller page gone ready there other pages revisions time next_page next_revision is =
+deleted kept after part now caller page gone ready there other pages revisions time next_page
+    next_revision is =
     let left = pages ∙ rows_left kept part ready page there in
     record {
       after = without_page part now page;

@@ -1,12 +1,12 @@
 -- How deep a tree is with a page more at the end of some kids.
-use Rattle.std.proofs.Common.{◌≡◌, ◌≤◌, ◌<◌, ◌+◌, ℕ, suc, Bool, true, false, cond, not, List, [], ◌∷◌, length, map, max, nat_eq, nat_lt, inl, inr, refl, sym, ap, ◌∙◌, arith}
+use Rattle.std.proofs.Common.{◌≡◌, ◌≤◌, ◌<◌, ◌+◌, ℕ, suc, Bool, true, false, cond, not, List, [], ◌∷◌, length, max, nat_eq, nat_lt, inl, inr, refl, arith}
 use Rattle.std.proofs.lemmas.Bool.Decides.{nat_tests}
 use Rattle.std.proofs.lemmas.List.{length-map}
-use Rattle.page_tree.specs.Tree.{Forest, bare, grown, End, put_last, graft, has_page}
+use Rattle.page_tree.specs.Tree.{Forest, bare, grown, End, put_last, graft}
 use Rattle.page_tree.specs.Walk.{Visit, walk, first_walk, extended, path_of}
 use Rattle.step_path.specs.declared.path.TheConstants.{MAX_DEPTH}
 use Rattle.tree_model.specs.Limits.{height, is_too_deep}
-use Rattle.tree_model.proofs.CountLemmas.{one, count, none_or_some, has_counts}
+use Rattle.tree_model.proofs.CountLemmas.{one, count, none_or_some}
 use Rattle.tree_model.proofs.PlaceLemmas.{graft_absent}
 
 module _ {Body : Type 0} where

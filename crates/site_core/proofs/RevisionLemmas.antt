@@ -1,9 +1,9 @@
 -- Revisions that rise by id: the one that a binary search ends at is the one with the id.
-use Rattle.std.proofs.Common.{◌≡◌, ◌<◌, ◌≤◌, ◌+◌, ℕ, suc, zero, true, false, Bool, List, [], ◌∷◌, length, Option, Some, None, Result, Ok, Err, nat_eq, refl, sym, ap, ◌∙◌, arith}
-use Rattle.std.specs.Prelude.{slice_get, is_some, nat_lt, get_or, IfSome, slice_index_or, find}
+use Rattle.std.proofs.Common.{◌≡◌, ◌<◌, ◌≤◌, ℕ, suc, zero, true, false, Bool, List, [], ◌∷◌, length, Option, Some, None, Ok, Err, nat_eq, refl, sym, ◌∙◌, arith}
+use Rattle.std.specs.Prelude.{slice_get, is_some, nat_lt, get_or, IfSome, slice_index_or}
 use Rattle.std.specs.Borrow.{Bor}
 use Rattle.std.specs.Option.{option_copied}
-use Rattle.std.specs.List.Sorted.{IsSearchInRange, IsBinarySearchResult, IsNonDecreasingBy}
+use Rattle.std.specs.List.Sorted.{IsBinarySearchResult, IsNonDecreasingBy}
 use Rattle.std.specs.Ordering.{nat_cmp, ordering_index}
 use Rattle.std.proofs.lemmas.Cmp.{ranked}
 use Rattle.std.proofs.lemmas.Option.{slice_get_past, slice_get_read}

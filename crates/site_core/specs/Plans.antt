@@ -1,20 +1,20 @@
 -- What is known of a command before it changes anything.
-use Rattle.std.specs.Prelude.{◌≡◌, ℕ, true, ◌+◌, List, [], ◌∷◌, ◌++◌, Option, Some, None, Result, Ok, Err}
+use Rattle.std.specs.Prelude.{◌≡◌, ℕ, true, List, Option, Some, None, Result, Ok, Err}
 use Rattle.page_tree.specs.Tree.{Forest, End, bare, grown, graft, has_page, kids_of, kid_with_slug}
-use Rattle.page_tree.specs.Rows.{Row, rows_of, child_url}
+use Rattle.page_tree.specs.Rows.{rows_of, child_url}
 use Rattle.site_types.specs.declared.body.Body.{Body}
 use Rattle.site_types.specs.declared.refusal.Refusal.{Refusal}
 use Rattle.tree_model.specs.Changes.{url_in}
 use Rattle.path_moves.specs.Append.{appended_path}
 use Rattle.site_model.specs.World.{TreePart}
-use Rattle.site_model.specs.Create.{create_refusal, fresh_body, created, page_reply, new_page}
-use Rattle.site_model.specs.Sound.{IsSound, HasIdsLeft}
+use Rattle.site_model.specs.Create.{create_refusal, fresh_body}
+use Rattle.site_model.specs.Sound.{HasIdsLeft}
 use Rattle.site_ids.specs.Slug.{IsSlug}
 use Rattle.site_core.specs.declared.fault.Fault.{Fault}
 use Rattle.site_core.specs.declared.fault.Fault.TheVariants.{Refused, Memory}
 use Rattle.site_core.specs.declared.creation.Creation.{Creation}
 use Rattle.site_core.specs.declared.place.NewPlace.{NewPlace}
-use Rattle.site_core.specs.Standing.{Kept, StandsFor, IsReady}
+use Rattle.site_core.specs.Standing.{Kept, IsReady}
 
 -- What is told of a command by what its rules refuse: a plan only where none refuses, and then the
 -- plan is right; a refusal exactly as the rules say.

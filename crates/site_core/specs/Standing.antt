@@ -1,5 +1,5 @@
 -- How the site in memory stands for a world, and what a command leaves.
-use Rattle.std.specs.Prelude.{◌≡◌, ℕ, List, Option, Some, None, Result, Ok, Err}
+use Rattle.std.specs.Prelude.{◌≡◌, ℕ, List, Result, Ok, Err}
 use Rattle.page_tree.specs.Rows.{Row, rows_of}
 use Rattle.site_types.specs.declared.body.Body.{Body}
 use Rattle.site_types.specs.declared.command.Command.{Command}

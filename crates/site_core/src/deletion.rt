@@ -46,7 +46,8 @@ impl Core {
 /// Keeps the revisions of the pages that are there.
 fn keep_revisions(revisions: &mut Vec<Revision>, rows: &Rows)
     ensures { revisions.new.items
-        ≡ filter (λ (revision : PageRevision). is_some (row_with revision.page rows.now.pages)) revisions.old.items }
+        ≡ filter (λ (revision : PageRevision). is_some (row_with revision.page rows.now.pages))
+        revisions.old.items }
 {
     revisions.retain(|revision| rows.row(revision.page).is_some());
 }

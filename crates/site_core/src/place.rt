@@ -35,9 +35,12 @@ pub(crate) fn plan_place(
     parent: PageId,
     slug: &Slug,
 ) -> Result<NewPlace, Fault>
-    requires { (part : TreePart) × (rows.now.pages ≡ rows_of part.tree) × IsSound part × (part.next_page ≡ page) }
-    ensures { (part : TreePart) (body : PageBody) → rows.now.pages ≡ rows_of part.tree → IsSound part → part.next_page ≡ page
-        → PlansBy (refusal_at part.tree page parent slug.now body) (IsPlace part.tree parent slug.now) result }
+    requires { (part : TreePart) × (rows.now.pages ≡ rows_of part.tree) × IsSound part
+        × (part.next_page ≡ page) }
+    ensures { (part : TreePart) (body : PageBody) → rows.now.pages ≡ rows_of part.tree
+        → IsSound part → part.next_page ≡ page
+        → PlansBy (refusal_at part.tree page parent slug.now body)
+        (IsPlace part.tree parent slug.now) result }
 {
     if rows.row(parent).is_none() {
         return Err(Fault::Refused(Refusal::NoPage(parent)));

@@ -1,5 +1,5 @@
 -- The parent is looked up, and then the path, the slug and the URL are tried.
-use Rattle.std.proofs.Common.{◌≡◌, length, refl, sym, ap, ◌∙◌}
+use Rattle.std.proofs.Common.{length, sym, ap, ◌∙◌}
 use Rattle.site_types.specs.RootBody.{root_body}
 use Rattle.site_core.proofs.LookUpLemmas.{found_row}
 use Rattle.site_core.proofs.CreationPlan.{refused_so, no_new_row, one_url, place_refused, place_found}

@@ -1,8 +1,8 @@
 -- A place is planned, all memory is taken, and then the page is put in.
-use Rattle.std.proofs.Common.{Ok, Err, refl, sym, ap, subst, ◌∙◌}
+use Rattle.std.proofs.Common.{Ok, Err, sym, ap, ◌∙◌}
 use Rattle.site_model.specs.Create.{fresh_body}
 use Rattle.site_core.specs.Plans.{IsPlace}
-use Rattle.site_core.proofs.CreationLemmas.{accepted, refused, same_stands, planned_next, can_create}
+use Rattle.site_core.proofs.CreationLemmas.{accepted, refused, planned_next, can_create}
 use Rattle.site_core.proofs.state.Core.create.Goals as goal
 
 pub returns-in-Err : goal.returns-in-Err

@@ -1,12 +1,10 @@
 -- The page is looked up, and then its subtree and their revisions go.
 use Rattle.std.proofs.Common.{◌≡◌, nat_eq, length, is_some, arith, sym, ap, ◌∙◌}
-use Rattle.site_types.specs.declared.command.Command.TheVariants.{Delete}
 use Rattle.std.specs.Prelude.{filter}
 use Rattle.page_tree.specs.Tree.{node_of, ids_of}
 use Rattle.page_tree.specs.Rows.{row_with}
 use Rattle.site_types.specs.declared.revision.Revision.{Revision}
 use Rattle.page_store.specs.Changes.{without_range}
-use Rattle.site_core.specs.Standing.{Runs}
 use Rattle.site_core.proofs.LookUpLemmas.{found_row}
 use Rattle.site_core.proofs.DeletionLemmas.{no_page_deleted, root_not_deleted, count_fits, deleted}
 use Rattle.site_core.proofs.state.Core.delete.Goals as goal
@@ -42,8 +40,10 @@ returns c = λ part caller ready.
     let there = found_row c.row.result c.args.page part.tree _ c.row.ensures
     (pages_are ∙ ready.stands.pages) in
     deleted c.args.self.now _ part c.args.now caller c.args.page _ ready
-    (sym there ∙ c.if-is_none.ensures) (ap (nat_eq c.args.page) (sym c.root.ensures) ∙ (sym c.eq.ensures ∙ c.if-eq.false))
-    (c.remove_range.ensures.pages ∙ ap (without_range c.args.page) pages_are) (c.keep_revisions.ensures
+    (sym there ∙ c.if-is_none.ensures)
+    (ap (nat_eq c.args.page) (sym c.root.ensures) ∙ (sym c.eq.ensures ∙ c.if-eq.false))
+    (c.remove_range.ensures.pages ∙ ap (without_range c.args.page) pages_are)
+    (c.keep_revisions.ensures
     ∙ ap (filter (λ (r : Revision). is_some (row_with r.page c.remove_range.new.self.pages)))
     (ap (λ k. k.revisions) c.self.view_is))
     c.later-time.ensures (ap (λ k. k.next_page) c.self.view_is)

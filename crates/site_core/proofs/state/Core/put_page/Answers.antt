@@ -1,5 +1,5 @@
 -- The new row fits, and the site then stands for the world with the new page.
-use Rattle.std.proofs.Common.{◌+◌, refl, sym, ap, subst, ◌∙◌}
+use Rattle.std.proofs.Common.{◌+◌, refl, ap, subst, ◌∙◌}
 use Rattle.page_store.specs.Pages.{ArePages}
 use Rattle.site_core.proofs.CreationLemmas.{fits_in, creates}
 use Rattle.site_core.proofs.state.Core.put_page.Goals as goal

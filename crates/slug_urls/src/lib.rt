@@ -13,6 +13,10 @@ pub use plan::plan_urls;
 pub use upward::url_of;
 
 #[cfg(test)]
+mod move_tests;
+#[cfg(test)]
+mod plain_moves;
+#[cfg(test)]
 mod sample;
 #[cfg(test)]
 mod tests;

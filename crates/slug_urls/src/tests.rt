@@ -46,42 +46,37 @@ fn slug_of(rt: &impl Abort, text: &[u8]) -> Slug {
     Slug::read(text).expect(rt, "a slug")
 }
 
+/// The pages below the root: number, path, slug and URL.
+const PAGES: &[(u32, &str, &str, &str)] = &[
+    (2, "00010001", "home", "/home/"),
+    (3, "000100010001", "ab", "/home/ab/"),
+    (4, "000100010002", "abc", "/home/abc/"),
+    (5, "0001000100010001", "k", "/home/ab/k/"),
+];
+
 /// The rows of the five pages.
 fn five_pages(rt: &impl Abort, alloc: Global) -> Result<Rows, Fail> {
     let mut rows = Rows::root(alloc)?;
-    add(
-        alloc,
-        &mut rows,
-        id_of(rt, 2),
-        b"00010001",
-        slug_of(rt, b"home"),
-        b"/home/",
-    )?;
-    add(
-        alloc,
-        &mut rows,
-        id_of(rt, 3),
-        b"000100010001",
-        slug_of(rt, b"ab"),
-        b"/home/ab/",
-    )?;
-    add(
-        alloc,
-        &mut rows,
-        id_of(rt, 4),
-        b"000100010002",
-        slug_of(rt, b"abc"),
-        b"/home/abc/",
-    )?;
-    add(
-        alloc,
-        &mut rows,
-        id_of(rt, 5),
-        b"0001000100010001",
-        slug_of(rt, b"k"),
-        b"/home/ab/k/",
-    )?;
+    for (number, path, slug, url) in PAGES {
+        add(
+            alloc,
+            &mut rows,
+            id_of(rt, *number),
+            path.as_bytes(),
+            slug_of(rt, slug.as_bytes()),
+            url.as_bytes(),
+        )?;
+    }
     Ok(rows)
+}
+
+/// So many bytes `a`.
+fn letters(alloc: Global, count: usize) -> Result<Vec<u8>, Fail> {
+    let mut text = Vec::new(alloc);
+    for _ in 0..count {
+        text.push(b'a')?;
+    }
+    Ok(text)
 }
 
 /// The rows of 31 pages, each below the one before, whose URLs grow by 256 bytes.
@@ -89,64 +84,68 @@ fn long_urls(rt: &impl Abort, alloc: Global) -> Result<Rows, Fail> {
     let mut rows = Rows::root(alloc)?;
     let mut path = Vec::from_slice(alloc, b"0001")?;
     let mut url = Vec::from_slice(alloc, b"/")?;
+    let slug = letters(alloc, 255)?;
     for number in 2..33 {
         path.extend_from_slice(b"0001")?;
-        url.extend_from_slice(&[b'a'; 255])?;
+        url.extend_from_slice(slug.as_slice())?;
         url.push(b'/')?;
-        let slug = slug_of(rt, &[b'a'; 255]);
         add(
             alloc,
             &mut rows,
             id_of(rt, number),
             path.as_slice(),
-            slug,
+            slug_of(rt, slug.as_slice()),
             url.as_slice(),
         )?;
     }
     Ok(rows)
 }
 
-#[test]
-fn a_new_tree_has_one_url(rt: HostRuntime) -> Result<(), Fail> {
-    let rows = Rows::root(rt.alloc())?;
-    let url = url_of(rt.alloc(), &rows, PageId::root())?.ok_or("no URL")?;
-    assert_eq!(rt; url.as_slice(), b"/".as_slice());
-    let absent = PageId::new(2).ok_or("no page's number")?;
-    assert_eq!(rt; url_of(rt.alloc(), &rows, absent)?.is_none(), true);
-    assert_eq!(rt; walk(&rows, b"/"), Some(PageId::root()));
-    assert_eq!(rt; walk(&rows, b""), None);
-    assert_eq!(rt; walk(&rows, b"/home/"), None);
-    assert_eq!(rt; walk(&rows, b"//"), None);
-    Ok(())
-}
+/// Each URL that is walked down, and the number of the page there, or 0 where there is none.
+const WALKS: &[(&str, u32)] = &[
+    ("/", 1),
+    ("/home/ab/k/", 5),
+    ("/home/abc/", 4),
+    ("/home/abc", 0),
+    ("/home/k/", 0),
+    ("//", 0),
+    ("", 0),
+];
 
 #[test]
 fn each_page_is_found_by_its_url(rt: HostRuntime) -> Result<(), Fail> {
     let rows = five_pages(&rt, rt.alloc())?;
-    let url = url_of(rt.alloc(), &rows, id_of(&rt, 5))?.ok_or("no URL")?;
-    assert_eq!(rt; url.as_slice(), b"/home/ab/k/".as_slice());
-    assert_eq!(rt; walk(&rows, b"/home/ab/k/"), Some(id_of(&rt, 5)));
-    assert_eq!(rt; walk(&rows, b"/home/abc/"), Some(id_of(&rt, 4)));
-    assert_eq!(rt; walk(&rows, b"/home/abc"), None);
-    assert_eq!(rt; walk(&rows, b"/home/k/"), None);
+    for (url, number) in WALKS {
+        let page = walk(&rows, url.as_bytes());
+        assert_eq!(rt; page.map_or(0, |page| page.get()), *number);
+    }
+    for (number, _, _, url) in PAGES {
+        let told = url_of(rt.alloc(), &rows, id_of(&rt, *number))?.ok_or("no URL")?;
+        assert_eq!(rt; told.as_slice(), url.as_bytes());
+    }
+    assert_eq!(rt; url_of(rt.alloc(), &rows, id_of(&rt, 9))?.is_none(), true);
     Ok(())
 }
+
+/// The page, its parent and its slug, and what is planned.
+const PLANS: &[(u32, u32, &str, &str)] = &[
+    (3, 2, "x", "3:/home/x/;5:/home/x/k/;"),
+    (3, 1, "ab", "3:/ab/;5:/ab/k/;"),
+    (9, 3, "new", "9:/home/ab/new/;"),
+    (3, 2, "ab", ""),
+];
 
 #[test]
 fn the_urls_that_change_are_planned(rt: HostRuntime) -> Result<(), Fail> {
     let alloc = rt.alloc();
     let rows = five_pages(&rt, alloc)?;
-    let other_slug = text_of(alloc, plan(&rt, &rows, (3, 2), b"x", alloc))?;
-    assert_eq!(rt;
-        other_slug.as_slice(),
-        b"3:/home/x/;5:/home/x/k/;".as_slice()
-    );
-    let other_parent = text_of(alloc, plan(&rt, &rows, (3, 1), b"ab", alloc))?;
-    assert_eq!(rt; other_parent.as_slice(), b"3:/ab/;5:/ab/k/;".as_slice());
-    let new_page = text_of(alloc, plan(&rt, &rows, (9, 3), b"new", alloc))?;
-    assert_eq!(rt; new_page.as_slice(), b"9:/home/ab/new/;".as_slice());
-    let all_stays = text_of(alloc, plan(&rt, &rows, (3, 2), b"ab", alloc))?;
-    assert_eq!(rt; all_stays.is_empty(), true);
+    for (page, parent, slug, listed) in PLANS {
+        let told = text_of(
+            alloc,
+            plan(&rt, &rows, (*page, *parent), slug.as_bytes(), alloc),
+        )?;
+        assert_eq!(rt; told.as_slice(), listed.as_bytes());
+    }
     let taken = plan(&rt, &rows, (3, 2), b"abc", alloc).err();
     assert_eq!(rt; taken, Some(UrlFault::Taken(id_of(&rt, 4))));
     Ok(())
@@ -156,9 +155,13 @@ fn the_urls_that_change_are_planned(rt: HostRuntime) -> Result<(), Fail> {
 fn a_url_has_at_most_8192_bytes(rt: HostRuntime) -> Result<(), Fail> {
     let alloc = rt.alloc();
     let rows = long_urls(&rt, alloc)?;
-    let most = plan(&rt, &rows, (40, 32), &[b'b'; 254], alloc).err();
-    assert_eq!(rt; most, None);
-    let more = plan(&rt, &rows, (40, 32), &[b'b'; 255], alloc).err();
-    assert_eq!(rt; more, Some(UrlFault::TooLong));
+    let most = letters(alloc, 254)?;
+    assert_eq!(rt;
+        plan(&rt, &rows, (40, 32), most.as_slice(), alloc).err(),
+        None
+    );
+    let more = letters(alloc, 255)?;
+    let long = plan(&rt, &rows, (40, 32), more.as_slice(), alloc).err();
+    assert_eq!(rt; long, Some(UrlFault::TooLong));
     Ok(())
 }

@@ -19,7 +19,8 @@ pub enum Status {
     Memory,
     /// The input ended within a request, of which so many bytes were there.
     Cut(u32),
-    /// What stood at the front of the input was answered with this status, 501, and ended the run.
+    /// What stood at the front of the input was answered with this status, 400, 413 or 431, and
+    /// ended the run.
     Refused(u16),
     /// As many requests were answered as a run answers: 1,000.
     Spent,

@@ -242,9 +242,9 @@ pub creation_keeps_the_rest : (before after : TreePart) (effect : Effect Reply)
     (HasDistinctIds before.tree → has_page before.next_page before.tree ≡ false → other_rows
     before.next_page (rows_of after.tree) ≡ raise_count (Some parent) (rows_of before.tree))
 creation_keeps_the_rest before after effect now caller parent slug content is =
-    let made = accepted_creation (create_refusal before.tree (created before now caller parent slug content).tree parent slug)
-    (created before now caller parent slug content) after effect
-    (page_reply before.next_page (created before now caller parent slug content).tree) is in (
+    let new = created before now caller parent slug content in
+    let made = accepted_creation (create_refusal before.tree new.tree parent slug) new after effect
+    (page_reply before.next_page new.tree) is in (
       subst (KeepsLists before) made.0 (created_keeps_lists before now caller parent slug content),
       ap (λ (e : Effect Reply). e.opened) made.1,
       ap (λ (e : Effect Reply). e.shut) made.1,

@@ -44,7 +44,7 @@ all_filter P keep (x ∷ xs) all = choice (keep x) (all_filter P keep xs all.1)
     choice false more = more
 
 -- what follows for each element that a test keeps holds of each of these
-all_kept : {X : Type 0} (P Q : X → Type 0) (keep : X → Bool) (xs : List X) →
+pub all_kept : {X : Type 0} (P Q : X → Type 0) (keep : X → Bool) (xs : List X) →
     ((x : X) → P x → keep x ≡ true → Q x) → AllByRecursion P xs →
     AllByRecursion Q (filter keep xs)
 all_kept P Q keep [] follows all = tt
@@ -173,21 +173,23 @@ deleted_sound part now page sound other =
     kept_off true is = absurd (cc)
     kept_off false is = refl
 
+-- what a deletion does beside changing the tree part
+abbrev pub deletion_effect : TreePart → ℕ → Effect Reply
+deletion_effect part page =
+    record { reply = Removed (count_gone part page); opened = None; shut = desks_gone part page }
+
 -- what an accepted deletion is: no rule refused it, and this is the world after it
-accepted_deletion : (refusal : Option Refusal) (part after : TreePart) (effect : Effect Reply)
+pub accepted_deletion : (refusal : Option Refusal) (part after : TreePart) (effect : Effect Reply)
     (now page : ℕ) → unless_kept refusal part now page ≡ Ok (after, effect) →
-    (refusal ≡ None) × (without_page part now page ≡ after)
+    (refusal ≡ None) × (without_page part now page ≡ after) × (effect ≡ deletion_effect part page)
 accepted_deletion (Some refusal) part after effect now page is = absurd (cc)
 accepted_deletion None part after effect now page is =
-    let pair = same_ok {E = Refusal} (
-      without_page part now page,
-      record {
-        reply = Removed (count_gone part page);
-        opened = None;
-        shut = desks_gone part page;
-      },
-    ) (after, effect) is in
-    (refl, ap (λ (p : TreePart × Effect Reply). p.0) pair)
+    let pair = same_ok {E = Refusal} (without_page part now page, deletion_effect part page)
+    (after, effect) is in (
+      refl,
+      ap (λ (p : TreePart × Effect Reply). p.0) pair,
+      ap (λ (p : TreePart × Effect Reply). p.1) (sym pair),
+    )
 
 -- A deletion keeps a world sound.
 pub deletion_keeps_sound : (before after : TreePart) (effect : Effect Reply) (now page : ℕ) →

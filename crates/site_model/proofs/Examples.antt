@@ -220,6 +220,7 @@ news_below_home = refl
 abbrev with_news_below : TreePart
 with_news_below = after_one (move home_and_news 300 3 2 FirstChild) home_and_news
 
+-- as its answer says
 news_is_blog : replied (set_slug with_news_below 400 3 (codes "blog")) ≡
     Ok (Page 3 (codes "000100010001") (codes "/home/blog/"))
 unfolding path_text step_text
@@ -249,10 +250,11 @@ no_revision sound =
     let own = sound.choices.1.0 (λ same. let no : ⊥ = omega (arith, same) in no) in
     let shown = own.shown in absurd (cc)
 
--- nor is one with two siblings of one slug
+-- two siblings of one slug
 abbrev with_two_homes : TreePart
 with_two_homes = with_page 1 (codes "home") with_home
 
+-- nor is a world with these
 two_homes : IsSound with_two_homes → ⊥
 two_homes sound = let taken = sound.siblings.1.0 in absurd (cc)
 

@@ -107,7 +107,7 @@ no_zero next (grown i s slug body kids rest) all =
     rw (differs, no_zero next kids all.1, no_zero next rest all.2) (omega arith)
 
 -- the part with a page moved
-abbrev part_moved : TreePart → ℕ → ℕ → ℕ → Position → TreePart
+abbrev pub part_moved : TreePart → ℕ → ℕ → ℕ → Position → TreePart
 part_moved part now page target position =
     record part {
       time = time_at part now;

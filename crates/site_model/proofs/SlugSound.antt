@@ -68,7 +68,7 @@ clear tree page new none =
     }
 
 -- the part with another slug for a page
-abbrev part_renamed : TreePart → ℕ → ℕ → List ℕ → TreePart
+abbrev pub part_renamed : TreePart → ℕ → ℕ → List ℕ → TreePart
 part_renamed part now page new =
     record part { time = time_at part now; tree = renamed page new part.tree }
 

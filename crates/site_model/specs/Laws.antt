@@ -1,21 +1,30 @@
 -- The laws of the world, each proved in src/laws.rt: what a creation does not name stays as it was,
 -- and the world of a new site is sound and stays so.
-use Rattle.std.specs.Prelude.{◌≡◌, ℕ, ◌==◌, false, not, filter, List, [], ◌∷◌, ◌++◌, None, Some, Ok, max}
+use Rattle.std.specs.Prelude.{◌≡◌, ℕ, ◌+◌, ◌≤◌, Bool, ◌==◌, true, false, not, filter, List, [], ◌∷◌, ◌++◌, length, None, Some, Ok, max}
 use Rattle.page_tree.specs.Tree.{HasDistinctIds, has_page}
 use Rattle.page_tree.specs.Rows.{Row, rows_of, raise_count}
-use Rattle.site_types.specs.Content.{ContentValue}
+use Rattle.site_types.specs.Content.{ContentValue, content_form}
 use Rattle.site_types.specs.declared.reply.Reply.{Reply}
-use Rattle.site_model.specs.World.{TreePart, Effect}
+use Rattle.site_model.specs.World.{World, TreePart, Effect}
 use Rattle.site_model.specs.Create.{create, plain_revision}
 use Rattle.site_ids.specs.Slug.{IsSlug}
 use Rattle.site_types.specs.declared.position.Position.{Position}
-use Rattle.site_model.specs.Start.{new_part}
+use Rattle.site_model.specs.Start.{new_part, new_world}
 use Rattle.site_model.specs.Moves.{move}
 use Rattle.site_model.specs.Delete.{delete}
 use Rattle.site_model.specs.Slugs.{set_slug}
 use Rattle.site_types.specs.declared.command.Command.{Command}
-use Rattle.site_model.specs.Step.{tree_step}
+use Rattle.site_types.specs.declared.command.Command.TheVariants as commands
+use Rattle.site_model.specs.Step.{tree_step, step}
 use Rattle.site_model.specs.Sound.{IsSound, HasIdsLeft, FitsPart}
+use Rattle.site_model.specs.Callers.{step_by}
+use Rattle.site_model.specs.UserSound.{AreUsers}
+use Rattle.site_model.specs.Rights.{is_superuser, any_live}
+use Rattle.site_model.specs.Needs.{edit_need}
+use Rattle.site_model.specs.Drafts.{AreDrafts, draft_need}
+use Rattle.site_model.specs.Contents.{MAX_CONTENTS, contents_length}
+use Rattle.site_model.specs.Reached.{IsReachedPart, IsReached}
+use Rattle.site_types.specs.declared.entry.Entry.{Entry}
 
 -- the lists beside the tree, but for the revisions, and the numbers that no creation gives out
 pub record KeepsLists (before after : TreePart) : Type 0 where
@@ -89,3 +98,79 @@ StepKeepsSound =
     (before after : TreePart) (effect : Effect Reply) (now caller : ℕ) (command : Command) →
     IsSound before → FitsPart before command →
     tree_step before now caller command ≡ Ok (after, effect) → IsSound after
+
+-- The users of a new site are sound.
+abbrev pub NewPartHasUsers : Type 0
+NewPartHasUsers = (digest : List ℕ) → AreUsers (new_part digest)
+
+-- whether the command is one on the tree
+abbrev pub is_on_tree : Command → Bool
+is_on_tree (commands.Create parent slug content) = true
+is_on_tree (commands.Move page target position) = true
+is_on_tree (commands.Delete page) = true
+is_on_tree (commands.SetSlug page slug) = true
+is_on_tree _ = false
+
+-- room is left for the content of what a command makes
+abbrev pub FitsContents : TreePart → Command → Type 0
+FitsContents part (commands.Create parent slug content) =
+    contents_length part.revisions + length (content_form content) ≤ MAX_CONTENTS
+FitsContents part _ = Unit {0}
+
+-- A superuser's commands on the tree do what they do where nobody's rights are asked, where ids and
+-- room for contents are left for what they make.
+abbrev pub SuperusersMayAll : Type 0
+SuperusersMayAll =
+    (part : TreePart) (now caller : ℕ) (command : Command) →
+    is_superuser part.users caller ≡ true → FitsPart part command → FitsContents part command →
+    is_on_tree command ≡ true →
+    step_by part now caller command ≡ tree_step part now caller command
+
+-- what a command has to be of itself, so that it keeps a world sound: its slug is a slug
+abbrev pub FitsCaller : Command → Type 0
+FitsCaller (commands.Create parent slug content) = IsSlug slug
+FitsCaller (commands.SetSlug page slug) = IsSlug slug
+FitsCaller _ = Unit {0}
+
+-- A step of any caller that is accepted keeps a world sound, with its users, groups, memberships
+-- and grants.
+abbrev pub StepByKeepsSound : Type 0
+StepByKeepsSound =
+    (before after : TreePart) (effect : Effect Reply) (now caller : ℕ) (command : Command) →
+    IsSound before → AreUsers before → FitsCaller command →
+    step_by before now caller command ≡ Ok (after, effect) → IsSound after × AreUsers after
+
+-- The world of a new site is one that is reached.
+abbrev pub NewWorldIsReached : Type 0
+NewWorldIsReached = (digest : List ℕ) → IsReached (new_world digest)
+
+-- A step of the tree part that is accepted leads to what is reached, and opens and ends no desk.
+abbrev pub StepByKeepsReached : Type 0
+StepByKeepsReached =
+    (before after : TreePart) (effect : Effect Reply) (now caller : ℕ) (command : Command) →
+    IsReachedPart before → FitsCaller command →
+    step_by before now caller command ≡ Ok (after, effect) →
+    IsReachedPart after × (effect.opened ≡ None) × (effect.shut ≡ [])
+
+-- A step that is accepted leads to a world that is reached.
+abbrev pub StepKeepsReached : Type 0
+StepKeepsReached =
+    (before after : World) (reply : Reply) (entry : Entry) →
+    IsReached before → FitsCaller entry.command → step before entry ≡ Ok (after, reply) →
+    IsReached after
+
+-- The one page of a new site is a draft.
+abbrev pub NewPartIsDraft : Type 0
+NewPartIsDraft = (digest : List ℕ) → AreDrafts (new_part digest)
+
+-- A step that is accepted leaves every page a draft.
+abbrev pub StepKeepsDrafts : Type 0
+StepKeepsDrafts =
+    (before after : TreePart) (effect : Effect Reply) (now caller : ℕ) (command : Command) →
+    AreDrafts before → step_by before now caller command ≡ Ok (after, effect) → AreDrafts after
+
+-- Among drafts no page is live, and nobody edits a page as its moderator.
+abbrev pub NeedsOfDrafts : Type 0
+NeedsOfDrafts =
+    (part : TreePart) (user page : ℕ) → AreDrafts part →
+    (any_live part.tree page ≡ false) × (edit_need part user page ≡ draft_need part user page)

@@ -7,4 +7,12 @@ pub mod Delete
 pub mod Slugs
 pub mod Step
 pub mod Sound
+pub mod Rights
+pub mod Needs
+pub mod Users
+pub mod Callers
+pub mod UserSound
+pub mod Drafts
 pub mod Laws
+pub mod Contents
+pub mod Reached

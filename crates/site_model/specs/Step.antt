@@ -13,9 +13,10 @@ use Rattle.site_model.specs.Create.{create}
 use Rattle.site_model.specs.Moves.{move}
 use Rattle.site_model.specs.Delete.{delete}
 use Rattle.site_model.specs.Slugs.{set_slug}
+use Rattle.site_model.specs.Callers.{step_by}
 
--- The step of the tree part. A command whose group is not built has no effect: no request can send
--- one.
+-- The step of the tree part by the commands on the tree, where nobody's rights are asked and ids and
+-- room for contents are left: what a superuser's commands do.
 unfoldable pub tree_step : TreePart → ℕ → ℕ → Command → Result (TreePart × Effect Reply) Refusal
 tree_step part now caller (Create parent slug content) = create part now caller parent slug content
 tree_step part now caller (Move page target position) = move part now page target position
@@ -45,7 +46,10 @@ with_texts texts (Ok done) = Ok (
   done.1.reply,
 )
 
--- the step of the world
+-- the step of the world by a command of a caller at a moment
+abbrev pub step_at : World → ℕ → ℕ → Command → Result (World × Reply) Refusal
+step_at world now caller command = with_texts world.texts (step_by world.part now caller command)
+
+-- the step of the world by an entry, whatever its number
 unfoldable pub step : World → Entry → Result (World × Reply) Refusal
-step world entry = with_texts world.texts
-    (tree_step world.part entry.moment entry.caller entry.command)
+step world entry = step_at world entry.moment entry.caller entry.command

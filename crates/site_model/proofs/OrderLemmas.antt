@@ -1,0 +1,104 @@
+-- Lists that rise by their keys: one item more in its place, and what a test keeps.
+use Rattle.std.proofs.Common.{◌≡◌, ℕ, Bool, true, false, cond, nat_eq, nat_lt, List, [], ◌∷◌, filter, refl, sym, arith}
+use Rattle.std.proofs.lemmas.Bool.Decides.{nat_tests}
+use Rattle.std.specs.List.{AllByRecursion}
+use Rattle.page_tree.specs.Rows.{comes_before}
+use Rattle.tree_model.proofs.PageLemmas.{all_weaker}
+use Rattle.site_model.specs.Users.{put_in}
+use Rattle.site_model.specs.UserSound.{KeysRise}
+
+-- one number of two keys, each before the next
+before_step : (x y z : ℕ) (p q r : Bool) → (p ≡ true → q ≡ true → r ≡ true) →
+    cond (nat_eq x y) p (nat_lt x y) ≡ true → cond (nat_eq y z) q (nat_lt y z) ≡ true →
+    cond (nat_eq x z) r (nat_lt x z) ≡ true
+before_step x y z p q r h a b = grind (arith, nat_tests)
+
+-- what comes before a key comes before those that the key comes before
+before_trans : (a b c : List ℕ) → comes_before a b ≡ true → comes_before b c ≡ true →
+    comes_before a c ≡ true
+before_trans [] [] c h k = cc
+before_trans [] (y ∷ b) [] h k = cc
+before_trans [] (y ∷ b) (z ∷ c) h k = refl
+before_trans (x ∷ a) [] c h k = cc
+before_trans (x ∷ a) (y ∷ b) [] h k = cc
+before_trans (x ∷ a) (y ∷ b) (z ∷ c) h k = before_step x y z _ _ _ (before_trans a b c) h k
+
+-- one number of two different keys
+either_step : (x y : ℕ) (p q : Bool) → (nat_eq x y ≡ true → p ≡ false → q ≡ true) →
+    cond (nat_eq x y) p (nat_lt x y) ≡ false → cond (nat_eq y x) q (nat_lt y x) ≡ true
+either_step x y p q h a = grind (arith, nat_tests)
+
+-- of two different keys one comes before the other
+before_other : (a b : List ℕ) → (a ≡ b → ⊥) → comes_before a b ≡ false →
+    comes_before b a ≡ true
+before_other [] [] differ h = absurd (differ refl)
+before_other [] (y ∷ b) differ h = cc
+before_other (x ∷ a) [] differ h = refl
+before_other (x ∷ a) (y ∷ b) differ h =
+    either_step x y _ _ (λ same rest. before_other a b (λ e. differ (let one : x ≡ y =
+    grind (arith, nat_tests) in cc)) rest) h
+
+module _ {Item : Type 0} where
+  -- what holds of an item and of all in a list holds of all with the item in its place
+  pub all_put : (P : Item → Type 0) (key : Item → List ℕ) (new : Item) (items : List Item) →
+      P new → AllByRecursion P items → AllByRecursion P (put_in key new items)
+  all_put P key new [] one all = (one, tt)
+  all_put P key new (item ∷ items) one all =
+      choice (comes_before (key new) (key item)) (all_put P key new items one all.1)
+    where
+      choice : (t : Bool) → AllByRecursion P (put_in key new items) →
+          AllByRecursion P (cond t (new ∷ item ∷ items) (item ∷ put_in key new items))
+      choice true more = (one, all)
+      choice false more = (all.0, more)
+
+  -- keys rise with one more in its place, where no item has its key
+  pub rise_put : (key : Item → List ℕ) (new : Item) (items : List Item) →
+      AllByRecursion (λ (item : Item). key item ≡ key new → ⊥) items → KeysRise key items →
+      KeysRise key (put_in key new items)
+  rise_put key new [] apart rise = (tt, tt)
+  rise_put key new (item ∷ items) apart rise =
+      choice (comes_before (key new) (key item)) refl (rise_put key new items apart.1 rise.1)
+    where
+      choice : (t : Bool) → comes_before (key new) (key item) ≡ t →
+          KeysRise key (put_in key new items) →
+          KeysRise key (cond t (new ∷ item ∷ items) (item ∷ put_in key new items))
+      choice true is more = (
+        (
+          is,
+          all_weaker (λ (later : Item). comes_before (key item) (key later) ≡ true)
+              (λ (later : Item). comes_before (key new) (key later) ≡ true) items
+              (λ later behind. before_trans (key new) (key item) (key later) is behind) rise.0,
+        ),
+        rise,
+      )
+      choice false is more = (
+        all_put (λ (later : Item). comes_before (key item) (key later) ≡ true) key new items
+            (before_other (key new) (key item) (λ same. apart.0 (sym same)) is) rise.0,
+        more,
+      )
+
+  -- what holds of each item holds of each that a test keeps
+  pub all_filter : (P : Item → Type 0) (keep : Item → Bool) (items : List Item) →
+      AllByRecursion P items → AllByRecursion P (filter keep items)
+  all_filter P keep [] all = tt
+  all_filter P keep (item ∷ items) all = choice (keep item) (all_filter P keep items all.1)
+    where
+      choice : (t : Bool) → AllByRecursion P (filter keep items) →
+          AllByRecursion P (cond t (item ∷ filter keep items) (filter keep items))
+      choice true more = (all.0, more)
+      choice false more = more
+
+  -- the keys of the items that a test keeps rise
+  pub rise_filter : (key : Item → List ℕ) (keep : Item → Bool) (items : List Item) →
+      KeysRise key items → KeysRise key (filter keep items)
+  rise_filter key keep [] rise = tt
+  rise_filter key keep (item ∷ items) rise =
+      choice (keep item) (rise_filter key keep items rise.1)
+    where
+      choice : (t : Bool) → KeysRise key (filter keep items) →
+          KeysRise key (cond t (item ∷ filter keep items) (filter keep items))
+      choice true more = (
+        all_filter (λ (later : Item). comes_before (key item) (key later) ≡ true) keep items rise.0,
+        more,
+      )
+      choice false more = more

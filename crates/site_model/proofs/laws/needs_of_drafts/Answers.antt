@@ -1,0 +1,6 @@
+-- The lemma says it of every world.
+use Rattle.site_model.proofs.DraftLemmas.{needs_of_drafts}
+use Rattle.site_model.proofs.laws.needs_of_drafts.Goals as goal
+
+pub returns : goal.returns
+returns c = needs_of_drafts

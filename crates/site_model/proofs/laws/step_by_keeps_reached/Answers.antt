@@ -1,0 +1,6 @@
+-- The lemma says it of every world.
+use Rattle.site_model.proofs.ReachedSound.{step_by_keeps_reached}
+use Rattle.site_model.proofs.laws.step_by_keeps_reached.Goals as goal
+
+pub returns : goal.returns
+returns c = step_by_keeps_reached

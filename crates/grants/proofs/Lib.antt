@@ -1,0 +1,13 @@
+pub mod KeyLemmas
+pub mod PlaceLemmas
+pub mod SearchLemmas
+pub mod MemberLemmas
+pub mod GrantLemmas
+pub mod CutLemmas
+pub mod UserLemmas
+pub mod SpanLemmas
+pub mod NeedLemmas
+pub mod OwnLemmas
+pub mod UpLemmas
+pub mod AboveLemmas
+pub mod HeldLemmas

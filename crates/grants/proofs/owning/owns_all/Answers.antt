@@ -1,0 +1,10 @@
+-- The rows of the page's range are those of the page and of all below it.
+use Rattle.std.proofs.Common.{◌∙◌}
+use Rattle.grants.proofs.OwnLemmas.{range_owned}
+use Rattle.grants.proofs.owning.owns_all.Goals as goal
+
+pub returns : goal.returns
+returns c tree same =
+    c.own_rows.ensures
+    ∙ range_owned c.args.user c.args.rows.now.pages c.len-len.ensures.pages tree same c.args.page
+    c.in-Some.place c.in-Some.count c.requires c.in-Some.ensures.range

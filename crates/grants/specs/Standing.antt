@@ -1,0 +1,31 @@
+-- How the tree part in memory stands for a world's.
+use Rattle.std.specs.Prelude.{◌≡◌}
+use Rattle.page_tree.specs.Rows.{rows_of}
+use Rattle.site_model.specs.World as worlds
+use Rattle.site_model.specs.Reached.{IsReachedPart}
+use Rattle.grants.specs.declared.part.TreePart.{TreePart}
+use Rattle.grants.specs.Lists.{SameLists, ListsStandFor}
+
+-- all but the room is as it was
+pub record IsSame (before after : TreePart) : Type 0 where
+  pub pages : after.rows.pages ≡ before.rows.pages
+  pub revisions : after.shelf.revisions ≡ before.shelf.revisions
+  pub lists : SameLists before.grants after.grants
+  pub time : after.time ≡ before.time
+  pub next_page : after.next_page ≡ before.next_page
+  pub next_revision : after.next_revision ≡ before.next_revision
+
+-- What is in memory is what the world has: the rows of its tree, the revisions, the users, groups,
+-- memberships and grants, the time and the next ids.
+pub record StandsFor (kept : TreePart) (part : worlds.TreePart) : Type 0 where
+  pub pages : kept.rows.pages ≡ rows_of part.tree
+  pub revisions : kept.shelf.revisions ≡ part.revisions
+  pub lists : ListsStandFor kept.grants part
+  pub time : kept.time ≡ part.time
+  pub next_page : kept.next_page ≡ part.next_page
+  pub next_revision : kept.next_revision ≡ part.next_revision
+
+-- What is in memory stands for a world that commands reach.
+pub record IsReady (kept : TreePart) (part : worlds.TreePart) : Type 0 where
+  pub stands : StandsFor kept part
+  pub reached : IsReachedPart part

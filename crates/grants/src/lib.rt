@@ -1,0 +1,27 @@
+//! Users, groups, memberships and grants; who may do what; and the tree part of the site in memory,
+//! with the plans of what commands change in it.
+#![tactic(auto)]
+
+mod define;
+mod digest;
+mod fault;
+mod granting;
+mod joining;
+mod look_up;
+mod need;
+mod owning;
+mod part;
+mod places;
+mod plan;
+mod right;
+mod spans;
+mod store;
+#[cfg(test)]
+mod tests;
+
+pub use fault::Fault;
+pub use need::{Need, may};
+pub use part::TreePart;
+pub use plan::{Change, Plan};
+pub use right::Held;
+pub use store::Grants;

@@ -1,0 +1,23 @@
+//! The tree part of the site in memory.
+use crate::Grants;
+use page_store::Rows;
+use revision_shelf::Shelf;
+use site_types::Moment;
+
+/// All of the site in memory but the texts of open desks: the rows of its pages, their revisions, who
+/// may do what, the time, and the next ids.
+#[derive(Debug, Drop)]
+pub struct TreePart {
+    /// The rows of the pages.
+    pub rows: Rows,
+    /// The revisions of the pages.
+    pub shelf: Shelf,
+    /// Users, groups, memberships and grants.
+    pub grants: Grants,
+    /// The greatest moment of a command that was accepted.
+    pub time: Moment,
+    /// The number of the next page, from 2 to 1,000,001.
+    pub next_page: u32,
+    /// The number of the next revision, from 1 to 4,000,000,001.
+    pub next_revision: u32,
+}

@@ -142,7 +142,7 @@ module _ (pages : List Page) (are : ArePages pages) where
 
   module _ (urls : AllByRecursion (HasUrl pages) pages) (slugs : HaveSlugs pages) where
     -- a page is reached from the root by what stands behind the first `/` of its URL
-    reached : (depth id : ℕ) (row : Page) → row_with id pages ≡ Some row → length row.path ≡ depth →
+    pub reached : (depth id : ℕ) (row : Page) → row_with id pages ≡ Some row → length row.path ≡ depth →
         (rest : List ℕ) × (row.url ≡ SLASH ∷ rest) × (page_below pages 1 [] rest ≡ Some id)
     reached zero id row found long = absurd (never (page_path id row found) long)
       where

@@ -1,0 +1,101 @@
+-- The plan of a deletion that no rule refuses.
+use Rattle.std.proofs.Common.{◌≡◌, ◌<◌, ◌≤◌, ◌+◌, ℕ, Bool, true, false, ◌||◌, List, [], ◌∷◌, length, max, filter, None, nat_eq, refl, sym, ap, ◌∙◌, arith}
+use Rattle.std.specs.List.{AllByRecursion, list_any}
+use Rattle.std.proofs.lemmas.Bool.Decides.{nat_tests}
+use Rattle.std.proofs.lemmas.Map.Steps.{length-le_from_distinct_below}
+use Rattle.page_tree.specs.Tree.{Forest, bare, grown, has_page, node_of, ids_of}
+use Rattle.site_ids.specs.declared.ids.TheConstants.{LAST_PAGE_ID}
+use Rattle.site_types.specs.declared.body.Body.{Body}
+use Rattle.site_types.specs.declared.command.Command.TheVariants.{Delete}
+use Rattle.site_types.specs.declared.reply.Reply.TheVariants.{Removed}
+use Rattle.tree_model.specs.Shape.{AllPages}
+use Rattle.tree_model.proofs.CountLemmas.{once, distinct_ids, cut_counts}
+use Rattle.tree_model.proofs.PageLemmas.{AllPages-node_of}
+use Rattle.tree_model.proofs.SiblingLemmas.{all_append}
+use Rattle.site_model.specs.World.{TreePart, DeskPair}
+use Rattle.site_model.specs.Delete.{without_page, pages_of, desks_gone, count_gone}
+use Rattle.site_model.specs.Sound.{IsSound, IsGiven}
+use Rattle.grants.specs.Plans.{HasPlan}
+use Rattle.grants.specs.declared.part.TreePart.{TreePart as KeptPart}
+use Rattle.grants.specs.declared.plan.Change.TheVariants as changes
+use Rattle.tree_edits.specs.Plans.{IsAsked}
+use Rattle.tree_edits.proofs.RuleLemmas.{names_clear, asked_rules}
+
+-- each id of some pages is below what each page's id is below
+ids_below : (n : ℕ) (f : Forest Body) → AllPages (λ id slug body. IsGiven n id) f →
+    AllByRecursion (λ id. id < n) (ids_of f)
+ids_below n bare all = tt
+ids_below n (grown i s slug body kids rest) all = (
+  all.0.1,
+  all_append (λ id. id < n) (ids_of kids) (ids_of rest) (ids_below n kids all.1)
+      (ids_below n rest all.2),
+)
+
+-- a number that is in a list is below what each of the list is below
+member_below : (n : ℕ) (xs : List ℕ) → AllByRecursion (λ id. id < n) xs → (q : ℕ) →
+    list_any (nat_eq q) xs ≡ true → q < n
+member_below n [] all q is = absurd (cc)
+member_below n (x ∷ xs) all q is =
+    choice (nat_eq q x) refl (λ any. member_below n xs all.1 q any) is
+  where
+    choice : (t : Bool) → nat_eq q x ≡ t → (list_any (nat_eq q) xs ≡ true → q < n) →
+        (t || list_any (nat_eq q) xs) ≡ true → q < n
+    choice true e later any =
+        let same : q ≡ x = grind (arith, nat_tests) in
+        omega (arith, same, all.0)
+    choice false e later any = later any
+
+-- pages have ids of their own below the next one, so that they are as many at most
+pub count_fits : (part : TreePart) (page : ℕ) → IsSound part →
+    length (ids_of (node_of page part.tree)) ≤ LAST_PAGE_ID + 1
+count_fits part page sound =
+    let tree = part.tree in
+    let node = node_of page tree in
+    let own = distinct_ids node (λ j.
+    let sum = cut_counts page j tree (once tree sound.distinct page) in
+    let most = once tree sound.distinct j in omega (arith, sum, most)) in
+    let below = ids_below part.next_page node
+    (AllPages-node_of (λ id slug body. IsGiven part.next_page id) page tree sound.page_ids) in
+    let fits = length-le_from_distinct_below (ids_of node) part.next_page own
+    (member_below part.next_page (ids_of node) below) in
+    let next = sound.next_page.1 in
+    omega (arith, fits, next)
+
+-- the plan of a deletion can be committed: no desk ends, as none is open
+pub deletion_planned : (kept : KeptPart) (part : TreePart) (now caller page removed : ℕ)
+    (gone shut : List ℕ) (time : ℕ) → IsAsked kept part caller (Delete page) →
+    gone ≡ ids_of (node_of page part.tree) → removed ≡ length gone → shut ≡ [] →
+    time ≡ max kept.time now →
+    HasPlan kept part now caller (Delete page) (record {
+      reply = Removed removed;
+      opened = None;
+      shut = shut;
+      time = time;
+      change = changes.Delete page gone;
+    })
+deletion_planned kept part now caller page removed gone shut time asked gone_is removed_is none
+    time_is = record {
+      after = without_page part now page;
+      effect = record {
+        reply = Removed (count_gone part page);
+        opened = None;
+        shut = desks_gone part page;
+      };
+      can = record {
+        ready = asked.ready;
+        right = record {
+          fits = asked.fits;
+          step = asked_rules part now caller (Delete page) refl
+              (names_clear part.tree (Delete page) refl asked.named) asked.allowed;
+          reply = ap Removed (removed_is ∙ ap length gone_is);
+          opened = refl;
+          shut = none
+              ∙ sym (ap (λ (desks : List DeskPair).
+              filter (λ id. has_page id (node_of page part.tree)) (pages_of desks))
+              asked.ready.reached.no_desks);
+          time = time_is ∙ ap (λ t. max t now) asked.ready.stands.time;
+          change = (refl, gone_is);
+        };
+        room = tt;
+      };
+    }

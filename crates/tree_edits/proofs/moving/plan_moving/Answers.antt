@@ -1,0 +1,44 @@
+-- The plan and the URLs are found, the reply is told, and room is made.
+use Rattle.std.proofs.Common.{refl, ◌∙◌}
+use Rattle.site_types.specs.declared.command.Command.TheVariants.{Move}
+use Rattle.tree_edits.specs.Moving.{IsMovePlan}
+use Rattle.tree_edits.proofs.AskedLemmas.{later_refuse}
+use Rattle.tree_edits.proofs.MoveLemmas.{move_named, move_planned}
+use Rattle.tree_edits.proofs.MovePlans.{rows_named}
+use Rattle.tree_edits.proofs.moving.plan_moving.Goals as goal
+
+pub plan_there-requires : goal.plan_there-requires
+plan_there-requires c = (
+  c.requires.0,
+  move_named c.args.part.now c.requires.0 c.requires.1 c.args.page c.args.target c.args.position
+      c.requires.2,
+)
+
+pub returns-in-Err-clause-plan : goal.returns-in-Err-clause-plan
+returns-in-Err-clause-plan c = λ world caller asked.
+    later_refuse c.args.part.now c.args.part.now world c.args.now caller
+    (Move c.args.page c.args.target c.args.position) refl asked
+    (IsMovePlan world.tree c.args.page c.args.target c.args.position) c.in-Err.fault
+    (c.in-Err.ensures world (move_named c.args.part.now world caller c.args.page c.args.target
+    c.args.position asked))
+
+pub told_page-requires : goal.told_page-requires
+told_page-requires c =
+    (rows_named c.args.part.now.rows.pages c.requires.0 c.args.page c.args.target c.args.position
+    (move_named c.args.part.now c.requires.0 c.requires.1 c.args.page c.args.target
+    c.args.position c.requires.2)).0
+
+pub returns-clause-plan : goal.returns-clause-plan
+returns-clause-plan c = λ world caller asked.
+    let made = c.in-Ok.ensures world (move_named c.args.part.now world caller c.args.page
+    c.args.target c.args.position asked) in
+    move_planned c.args.part.now world c.args.now caller c.args.page c.args.target c.args.position
+    asked c.in-Ok.made.0 c.in-Ok.made.1 made.0 made.1 _ _ _ _ (record {
+      pages = c.reserve.ensures.pages;
+      revisions = refl;
+      lists = record { users = refl; groups = refl; members = refl; grants = refl };
+      time = refl;
+      next_page = refl;
+      next_revision = refl;
+    }) c.in-Ok-reserve.ensures.ok c.in-Ok-told_page.ensures
+    (c.from_vec.ensures ∙ c.new.ensures.items) c.later.ensures

@@ -1,0 +1,39 @@
+-- The URLs are found, the reply is told, and room is made.
+use Rattle.std.proofs.Common.{refl, ◌∙◌}
+use Rattle.tree_edits.proofs.SlugLemmas.{slug_refuses}
+use Rattle.tree_edits.proofs.SlugLemmas.{slug_named, row_named, slug_planned}
+use Rattle.tree_edits.proofs.renaming.plan_renaming.Goals as goal
+
+pub urls_with-requires : goal.urls_with-requires
+urls_with-requires c = (
+  c.requires.0,
+  slug_named c.args.part.now c.requires.0 c.requires.1 c.args.page c.args.slug.now c.requires.2,
+)
+
+pub returns-in-Err-clause-plan : goal.returns-in-Err-clause-plan
+returns-in-Err-clause-plan c = λ world caller asked.
+    slug_refuses c.args.part.now c.args.part.now world c.args.now caller c.args.page
+    c.args.slug.now asked c.in-Err.fault
+    (c.in-Err.ensures world (slug_named c.args.part.now world caller c.args.page c.args.slug.now
+    asked))
+
+pub told_page-requires : goal.told_page-requires
+told_page-requires c =
+    row_named c.args.part.now.rows.pages c.requires.0 c.args.page c.args.slug.now
+    (slug_named c.args.part.now c.requires.0 c.requires.1 c.args.page c.args.slug.now c.requires.2)
+
+pub returns-clause-plan : goal.returns-clause-plan
+returns-clause-plan c = λ world caller asked.
+    let made = c.in-Ok.ensures world (slug_named c.args.part.now world caller c.args.page
+    c.args.slug.now asked) in
+    slug_planned c.args.part.now world c.args.now caller c.args.page c.args.slug.now asked
+    c.in-Ok.urls made.0 made.1 _ _ _ _ _ _ (record {
+      pages = c.reserve.ensures.pages;
+      revisions = refl;
+      lists = record { users = refl; groups = refl; members = refl; grants = refl };
+      time = refl;
+      next_page = refl;
+      next_revision = refl;
+    }) c.in-Ok-reserve.ensures.ok c.in-Ok-told_page.ensures
+    (c.from_vec-none.ensures ∙ c.new.ensures.items) c.copy.ensures
+    (c.from_vec.ensures ∙ c.new-2.ensures.items) c.later.ensures

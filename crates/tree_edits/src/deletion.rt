@@ -1,0 +1,38 @@
+//! Plans of deletions.
+ghost use Rattle.std.specs.Prelude.{◌≡◌, ℕ};
+ghost use Rattle.site_types.specs.declared.command.Command.TheVariants as commands;
+ghost use Rattle.site_model.specs.World as worlds;
+ghost use Rattle.grants.specs.Plans.{Prepares};
+ghost use Rattle.tree_edits.specs.Plans.{IsAsked};
+
+use crate::telling::later;
+use grants::{Change, Fault, Plan, TreePart};
+use path_moves::plan_delete;
+use site_types::{Ids, Moment, PageId, Reply};
+use std::alloc::Global;
+
+/// The plan of a deletion of a page that is there and below the root, which its caller may give. It
+/// costs a look-up for each page that goes, and no room is needed.
+pub(crate) fn plan_deletion(
+    alloc: Global,
+    part: &TreePart,
+    page: PageId,
+    now: Moment,
+) -> Result<Plan, Fault>
+    requires { (world : worlds.TreePart) × (caller : ℕ)
+        × IsAsked part.now world caller (commands.Delete page) }
+    ensures { (world : worlds.TreePart) (caller : ℕ)
+        → IsAsked part.now world caller (commands.Delete page)
+        → Prepares world now caller (commands.Delete page) part.now result }
+{
+    let Ok(gone) = plan_delete(alloc, &part.rows, page) else {
+        return Err(Fault::Memory);
+    };
+    Ok(Plan {
+        reply: Reply::Removed(gone.len() as u32),
+        opened: None,
+        shut: Ids::from_vec(Vec::new(alloc)),
+        time: later(part.time, now),
+        change: Change::Delete { page, gone },
+    })
+}

@@ -1,0 +1,15 @@
+//! Plans of the commands on the tree: creations, moves, deletions and other slugs.
+#![tactic(auto)]
+
+mod creation;
+mod deletion;
+mod fault;
+mod moving;
+mod naming;
+mod place;
+mod prepare;
+mod renaming;
+mod rights;
+mod telling;
+
+pub use prepare::prepare_tree;

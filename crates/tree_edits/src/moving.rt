@@ -1,0 +1,123 @@
+//! Plans of moves.
+ghost use Rattle.std.specs.Prelude.{◌≡◌, ℕ};
+ghost use Rattle.page_tree.specs.Rows.{rows_of};
+ghost use Rattle.site_types.specs.declared.command.Command.TheVariants as commands;
+ghost use Rattle.tree_model.specs.Places.{stays_put, parent_at, slug_in};
+ghost use Rattle.slug_urls.specs.Plans.{planned_urls, UnlessMemory};
+ghost use Rattle.site_model.specs.World as worlds;
+ghost use Rattle.site_model.specs.Rules.{first_of};
+ghost use Rattle.grants.specs.Plans.{Prepares};
+ghost use Rattle.grants.specs.Standing.{IsSame};
+ghost use Rattle.tree_edits.specs.Plans.{PlansBy, IsAsked};
+ghost use Rattle.tree_edits.specs.Moving.{there_rules, early_fault, IsNamed, IsAway, IsMovePlan};
+
+use crate::place::both;
+use crate::telling::{later, told_page};
+use grants::{Change, Fault, Plan, TreePart};
+use page_store::{MovePlan, Rows, Urls};
+use path_moves::{PathFault, is_beside, new_parent, plan_move};
+use site_types::{Ids, Moment, PageId, Position, Refusal};
+use slug_urls::{UrlFault, plan_urls};
+use std::alloc::Global;
+
+/// The plan of a move that names pages which are there, and which its caller may give.
+///
+/// It costs what `plan_move` and `plan_urls` cost: a few look-ups for each page that moves and for
+/// each later sibling with all below it, and one URL for each page whose URL changes.
+pub(crate) fn plan_moving(
+    alloc: Global,
+    part: &mut TreePart,
+    page: PageId,
+    target: PageId,
+    position: Position,
+    now: Moment,
+) -> Result<Plan, Fault>
+    requires { (world : worlds.TreePart) × (caller : ℕ)
+        × IsAsked part.old world caller (commands.Move page target position) }
+    ensures same { IsSame part.old part.new }
+    ensures plan { (world : worlds.TreePart) (caller : ℕ)
+        → IsAsked part.old world caller (commands.Move page target position)
+        → Prepares world now caller (commands.Move page target position) part.new result }
+{
+    let (plan, urls) = match plan_there(alloc, &part.rows, page, target, position) {
+        Ok(made) => made,
+        Err(fault) => return Err(fault),
+    };
+    let Ok(reply) = told_page(alloc, &part.rows, page, &plan.rows, &urls) else {
+        return Err(Fault::Memory);
+    };
+    let Ok(()) = part.rows.reserve(2) else {
+        return Err(Fault::Memory);
+    };
+    Ok(Plan {
+        reply,
+        opened: None,
+        shut: Ids::from_vec(Vec::new(alloc)),
+        time: later(part.time, now),
+        change: Change::Move { plan, urls },
+    })
+}
+
+/// The plan of a move and the URLs that change with it, or why it is refused: the first of the
+/// rules that does.
+fn plan_there(
+    alloc: Global,
+    rows: &Rows,
+    page: PageId,
+    target: PageId,
+    position: Position,
+) -> Result<(MovePlan, Urls), Fault>
+    requires { (part : worlds.TreePart) × IsNamed rows.now.pages part page target position }
+    ensures { (part : worlds.TreePart) → IsNamed rows.now.pages part page target position
+        → PlansBy (first_of (there_rules part.tree page target position))
+        (IsMovePlan part.tree page target position) result }
+{
+    if stays(page, target, position) {
+        return Err(Fault::Refused(Refusal::NothingNew));
+    }
+    let plan = plan_move(alloc, rows, page, target, position);
+    if let Some(fault) = first_fault(&plan) {
+        return Err(fault);
+    }
+    let urls = urls_there(alloc, rows, page, target, position);
+    both(plan, urls)
+}
+
+/// Whether the target is the page itself, at a position among its own siblings.
+fn stays(page: PageId, target: PageId, position: Position) -> bool
+    ensures { result ≡ stays_put page target position }
+{
+    page == target && is_beside(position)
+}
+
+/// The fault of a plan that comes before those of the URLs.
+fn first_fault(plan: &Result<MovePlan, PathFault>) -> Option<Fault>
+    ensures { result ≡ early_fault plan.now }
+{
+    match plan {
+        Err(PathFault::IntoItself) => Some(Fault::Refused(Refusal::IntoItself)),
+        Err(PathFault::Memory) => Some(Fault::Memory),
+        _ => None,
+    }
+}
+
+/// The URLs that change where a page goes to a position at a target page.
+fn urls_there(
+    alloc: Global,
+    rows: &Rows,
+    page: PageId,
+    target: PageId,
+    position: Position,
+) -> Result<Urls, UrlFault>
+    requires { (part : worlds.TreePart) × IsAway rows.now.pages part page target position }
+    ensures { (part : worlds.TreePart) → IsAway rows.now.pages part page target position
+        → UnlessMemory (planned_urls part.tree page (parent_at part.tree target position)
+        (slug_in part.tree page)) result }
+{
+    let _len = rows.len();
+    let parent = new_parent(rows, target, position);
+    let Some(row) = rows.row(page) else {
+        unreachable!()
+    };
+    plan_urls(alloc, rows, page, parent, &row.slug)
+}

@@ -6,4 +6,6 @@ mod RouteLemmas
 mod CallLemmas
 pub mod FloatLemmas
 mod CallExamples
+mod FormExamples
 mod ResponseExamples
+mod DigestLemmas

@@ -56,6 +56,10 @@ form-route forms.Create = refl
 form-route forms.Move = refl
 form-route forms.Delete = refl
 form-route forms.SetSlug = refl
+form-route forms.DefineUser = refl
+form-route forms.DefineGroup = refl
+form-route forms.Member = refl
+form-route forms.Grant = refl
 
 -- the three routes with a parameter are in the router
 pub card-known : has_pattern (part_pattern CARD_FRONT.now) all_routes ≡ true

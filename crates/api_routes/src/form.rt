@@ -2,9 +2,11 @@
 ghost use Rattle.std.specs.Prelude.{◌≡◌};
 ghost use Rattle.serde_json.specs.View.{view};
 ghost use Rattle.block_content.specs.Reads.{Reads};
-ghost use Rattle.wire_model.specs.Forms.{command_in, creation_in, move_in, deletion_in, slug_change_in};
+ghost use Rattle.wire_model.specs.Forms.{command_in, creation_in, move_in, deletion_in, slug_change_in, user_definition_in, group_definition_in, membership_in, grant_in};
 
-use crate::member::{content_at, id_at, position_at, slug_at};
+use crate::member::{
+    content_at, digest_at, group_at, id_at, permission_at, position_at, slug_at, truth_at, user_at,
+};
 use block_content::ContentFault;
 use block_content::members::has_exactly;
 use serde_json::Value;
@@ -25,6 +27,10 @@ pub(crate) fn command_in(
         CommandForm::Move => or_bad(move_in(value)),
         CommandForm::Delete => or_bad(deletion_in(value)),
         CommandForm::SetSlug => or_bad(slug_change_in(value)),
+        CommandForm::DefineUser => or_bad(user_definition_in(value)),
+        CommandForm::DefineGroup => or_bad(group_definition_in(value)),
+        CommandForm::Member => or_bad(membership_in(value)),
+        CommandForm::Grant => or_bad(grant_in(value)),
     }
 }
 
@@ -97,4 +103,55 @@ fn slug_change_in(value: &Value) -> Option<Command>
     let page = id_at(value, "page")?;
     let slug = slug_at(value)?;
     Some(Command::SetSlug { page, slug })
+}
+
+/// The definition of a user that a value asks for.
+fn user_definition_in(value: &Value) -> Option<Command>
+    ensures { result ≡ user_definition_in (view value.now) }
+{
+    if !has_exactly(value, &["digest", "superuser"]) {
+        return None;
+    }
+    let digest = digest_at(value)?;
+    let superuser = truth_at(value, "superuser")?;
+    Some(Command::DefineUser { superuser, digest })
+}
+
+/// The definition of a group that a value asks for.
+fn group_definition_in(value: &Value) -> Option<Command>
+    ensures { result ≡ group_definition_in (view value.now) }
+{
+    has_exactly(value, &[]).then_some(Command::DefineGroup)
+}
+
+/// The membership, or its end, that a value asks for.
+fn membership_in(value: &Value) -> Option<Command>
+    ensures { result ≡ membership_in (view value.now) }
+{
+    if !has_exactly(value, &["group", "on", "user"]) {
+        return None;
+    }
+    let user = user_at(value)?;
+    let group = group_at(value)?;
+    let on = truth_at(value, "on")?;
+    Some(Command::Member { user, group, on })
+}
+
+/// The grant, or its end, that a value asks for.
+fn grant_in(value: &Value) -> Option<Command>
+    ensures { result ≡ grant_in (view value.now) }
+{
+    if !has_exactly(value, &["group", "on", "page", "permission"]) {
+        return None;
+    }
+    let group = group_at(value)?;
+    let page = id_at(value, "page")?;
+    let permission = permission_at(value)?;
+    let on = truth_at(value, "on")?;
+    Some(Command::Grant {
+        group,
+        page,
+        permission,
+        on,
+    })
 }

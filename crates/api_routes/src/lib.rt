@@ -2,15 +2,20 @@
 //! to its response, with bodies of JSON (RFC 8259).
 #![tactic(auto)]
 
+#[cfg(test)]
+mod asking;
 mod body;
 mod call;
 mod card;
+mod digest;
 mod form;
 mod id;
 mod member;
 mod parts;
 mod path;
 mod refusal;
+#[cfg(test)]
+mod refusal_tests;
 mod reply;
 mod response;
 #[cfg(test)]
@@ -18,6 +23,8 @@ mod response_tests;
 mod router;
 #[cfg(test)]
 mod tests;
+#[cfg(test)]
+mod user_tests;
 
 pub use call::to_call;
 pub use http_wire::{Allow, Method, NoMemory, Request, Response};

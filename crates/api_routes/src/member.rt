@@ -2,12 +2,16 @@
 ghost use Rattle.std.specs.Prelude.{◌≡◌};
 ghost use Rattle.serde_json.specs.View.{view};
 ghost use Rattle.block_content.specs.Reads.{Reads};
-ghost use Rattle.wire_model.specs.Forms.{id_at, slug_at, content_at, position_at, named, all_positions, position_text};
+ghost use Rattle.wire_model.specs.Forms.{id_at, slug_at, content_at, position_at, truth_at, user_at, group_at, permission_at, digest_at, named, all_positions, position_text, all_permissions, permission_text};
 
-use block_content::members::{member, page_id, slug, text_at};
+use crate::digest::written_digest;
+use block_content::members::{member, page_id, slug, text_at, truth, whole_within};
 use block_content::{ContentFault, read_content};
 use serde_json::Value;
-use site_types::{Content, PageId, Position, Slug};
+use site_types::{
+    Content, Digest, GroupId, LAST_GROUP_ID, LAST_USER_ID, PageId, Permission, Position, Slug,
+    UserId,
+};
 use std::alloc::Global;
 
 /// The id of a page at the member of this name.
@@ -63,6 +67,70 @@ fn position_named(text: &str) -> Option<Position>
     }
     if text == "last-sibling" {
         return Some(Position::LastSibling);
+    }
+    None
+}
+
+/// The truth value at the member of this name.
+pub(crate) fn truth_at(value: &Value, name: &str) -> Option<bool>
+    ensures { result ≡ truth_at name.now (view value.now) }
+{
+    truth(member(value, name)?)
+}
+
+/// The id of the user at the member user, from 1 to 65,535.
+pub(crate) fn user_at(value: &Value) -> Option<UserId>
+    ensures { result ≡ user_at (view value.now) }
+{
+    let number = whole_within(member(value, "user")?, 1, LAST_USER_ID as u64)?;
+    UserId::new(number as u32)
+}
+
+/// The id of the group at the member group, from 1 to 65,535.
+pub(crate) fn group_at(value: &Value) -> Option<GroupId>
+    ensures { result ≡ group_at (view value.now) }
+{
+    let number = whole_within(member(value, "group")?, 1, LAST_GROUP_ID as u64)?;
+    GroupId::new(number as u32)
+}
+
+/// The digest at the member digest.
+pub(crate) fn digest_at(value: &Value) -> Option<Digest>
+    ensures { result ≡ digest_at (view value.now) }
+{
+    let text = text_at(value, "digest")?;
+    written_digest(text.as_bytes())
+}
+
+/// The permission at the member permission.
+pub(crate) fn permission_at(value: &Value) -> Option<Permission>
+    ensures { result ≡ permission_at (view value.now) }
+{
+    let text = text_at(value, "permission")?;
+    permission_named(text)
+}
+
+/// The permission with this text.
+fn permission_named(text: &str) -> Option<Permission>
+    ensures { result ≡ named permission_text all_permissions text.now }
+{
+    if text == "add" {
+        return Some(Permission::Add);
+    }
+    if text == "change" {
+        return Some(Permission::Change);
+    }
+    if text == "publish" {
+        return Some(Permission::Publish);
+    }
+    if text == "bulk_delete" {
+        return Some(Permission::BulkDelete);
+    }
+    if text == "lock" {
+        return Some(Permission::Lock);
+    }
+    if text == "unlock" {
+        return Some(Permission::Unlock);
     }
     None
 }

@@ -3,15 +3,15 @@ use crate::{Answer, to_response};
 use http_wire::{Allow, StatusCode, write_response};
 use public_view::Card;
 use site_types::{
-    Blocks, Body, Ids, Moderation, ModerationStatus, Moment, NameKind, NoMemory, PageId, PathText,
-    Refusal, Reply, RevisionId, Slug, TaskId, Text, Url, UserId, WorkflowId,
+    Blocks, Body, Ids, Moderation, ModerationStatus, Moment, NoMemory, PageId, PathText, Refusal,
+    Reply, RevisionId, Slug, Text, Url, UserId, WorkflowId,
 };
 use std::alloc::{AllocError, Global};
 use std::process::Abort;
 use std::test::Fail;
 
 /// The answer has this status and this body.
-fn tells(
+pub(crate) fn tells(
     rt: &impl Abort,
     alloc: Global,
     answer: &Answer,
@@ -152,61 +152,6 @@ fn replies_are_told(rt: HostRuntime) -> Result<(), Fail> {
             StatusCode::Ok,
             text,
         )?;
-    }
-    Ok(())
-}
-
-#[test]
-fn refusals_are_told(rt: HostRuntime) -> Result<(), Fail> {
-    let alloc = rt.alloc();
-    let page = PageId::new(9).ok_or("page")?;
-    let user = UserId::new(3).ok_or("user")?;
-    let task = TaskId::new(4).ok_or("task")?;
-    let conflict = StatusCode::Conflict;
-    let rows = [
-        (
-            Refusal::NoPage(page),
-            StatusCode::NotFound,
-            "{\"name\":\"NoPage\",\"refused\":1,\"with\":9}",
-        ),
-        (
-            Refusal::Denied(1),
-            StatusCode::Forbidden,
-            "{\"name\":\"Denied\",\"refused\":3,\"with\":1}",
-        ),
-        (
-            Refusal::Locked(user),
-            conflict,
-            "{\"name\":\"Locked\",\"refused\":4,\"with\":3}",
-        ),
-        (
-            Refusal::InModeration(task),
-            conflict,
-            "{\"name\":\"InModeration\",\"refused\":6,\"with\":4}",
-        ),
-        (
-            Refusal::SlugTaken(page),
-            conflict,
-            "{\"name\":\"SlugTaken\",\"refused\":8,\"with\":9}",
-        ),
-        (
-            Refusal::NothingNew,
-            conflict,
-            "{\"name\":\"NothingNew\",\"refused\":15}",
-        ),
-        (
-            Refusal::NoName(NameKind::Workflow),
-            conflict,
-            "{\"name\":\"NoName\",\"refused\":19,\"with\":4}",
-        ),
-        (
-            Refusal::LogFull,
-            conflict,
-            "{\"name\":\"LogFull\",\"refused\":22}",
-        ),
-    ];
-    for (refusal, status, text) in rows {
-        tells(&rt, alloc, &Answer::Refused(refusal), status, text)?;
     }
     Ok(())
 }

@@ -24,18 +24,22 @@ pub enum Target {
 }
 
 /// The forms of commands whose routes are built.
-const FORMS: [CommandForm; 4] = [
+const FORMS: [CommandForm; 8] = [
     CommandForm::Create,
     CommandForm::Move,
     CommandForm::Delete,
     CommandForm::SetSlug,
+    CommandForm::DefineUser,
+    CommandForm::DefineGroup,
+    CommandForm::Member,
+    CommandForm::Grant,
 ];
 
 /// The route of cards.
 const CARD_ROUTE: &str = "/api/pages/{id}";
 
 /// The routes of what is not built yet.
-const UNBUILT_ROUTES: [&str; 28] = [
+const UNBUILT_ROUTES: [&str; 24] = [
     "/api/refs/{id}",
     "/api/desks/{id}",
     "/api/alias",
@@ -58,10 +62,6 @@ const UNBUILT_ROUTES: [&str; 28] = [
     "/api/approve",
     "/api/reject",
     "/api/cancel",
-    "/api/users",
-    "/api/groups",
-    "/api/members",
-    "/api/grants",
     "/api/tick",
     "/api/checkpoint",
 ];
@@ -143,6 +143,10 @@ fn command_route(form: CommandForm) -> &'static str
         CommandForm::Move => "/api/move",
         CommandForm::Delete => "/api/delete",
         CommandForm::SetSlug => "/api/slug",
+        CommandForm::DefineUser => "/api/users",
+        CommandForm::DefineGroup => "/api/groups",
+        CommandForm::Member => "/api/members",
+        CommandForm::Grant => "/api/grants",
     }
 }
 

@@ -1,6 +1,6 @@
 //! Requests and what they ask for, at the edges of routes, ids and forms.
-use crate::{Allow, Call, Method, Request, RouteFault, Routes, to_call};
-use site_types::Command;
+use crate::asking::{asked, in_short, request};
+use crate::{Method, Routes, to_call};
 use std::alloc::{AllocError, Global};
 use std::test::Fail;
 
@@ -35,6 +35,12 @@ const PATHS: &[(&str, &str, &str)] = &[
     ("/api/move", "405 POST", "400"),
     ("/api/delete", "405 POST", "400"),
     ("/api/slug", "405 POST", "400"),
+    ("/api/users", "405 POST", "400"),
+    ("/api/groups", "405 POST", "400"),
+    ("/api/members", "405 POST", "400"),
+    ("/api/grants", "405 POST", "400"),
+    ("/api/users/1", "404", "404"),
+    ("/api/group", "404", "404"),
     ("/api/move/", "404", "404"),
     ("/api/slugs", "404", "404"),
     ("/api/Move", "404", "404"),
@@ -75,10 +81,6 @@ const UNBUILT: &[&str] = &[
     "approve",
     "reject",
     "cancel",
-    "users",
-    "groups",
-    "members",
-    "grants",
     "tick",
     "checkpoint",
     "refs/1",
@@ -209,91 +211,6 @@ const NO_CREATIONS: &[&[u8]] = &[
     b"{\"content\":{\"blocks\":[],\"title\":\"A\"},\"parent\":7,\"slug\":\"a\"",
     b"{\"content\":{\"blocks\":[],\"title\":\"A\"},\"parent\":7,\"slug\":\"a\"}}",
 ];
-
-/// A request of this method, path and body.
-fn request<'b>(method: Method, path: &'b [u8], body: &'b [u8]) -> Request<'b> {
-    Request {
-        method,
-        path,
-        token: None,
-        body,
-        close: false,
-    }
-}
-
-/// The text of these bytes.
-fn text_of(bytes: &[u8]) -> &str {
-    match str::from_utf8(bytes) {
-        Ok(text) => text,
-        Err(_) => "bytes",
-    }
-}
-
-/// A fault in short.
-fn fault_in_short(fault: &RouteFault) -> &'static str {
-    match fault {
-        RouteFault::NotFound => "404",
-        RouteFault::NotBuilt => "501",
-        RouteFault::Method(Allow::Get) => "405 GET",
-        RouteFault::Method(Allow::Post) => "405 POST",
-        RouteFault::Form => "400",
-        RouteFault::Memory => "503",
-    }
-}
-
-/// What is asked, in short.
-fn in_short(alloc: Global, asked: &Result<Call, RouteFault>) -> Result<String, AllocError> {
-    match asked {
-        Ok(Call::Run(Command::Create { parent, slug, .. })) => {
-            let parent = parent.get();
-            let slug = text_of(slug.as_slice());
-            format!(in alloc; "create {slug} below {parent}")
-        }
-        Ok(
-            Call::Run(
-                Command::Move {
-                    page,
-                    target,
-                    position,
-                },
-            ),
-        ) => {
-            let page = page.get();
-            let target = target.get();
-            format!(in alloc; "move {page} by {target}: {position:?}")
-        }
-        Ok(Call::Run(Command::Delete { page })) => {
-            let page = page.get();
-            format!(in alloc; "delete {page}")
-        }
-        Ok(Call::Run(Command::SetSlug { page, slug })) => {
-            let page = page.get();
-            let slug = text_of(slug.as_slice());
-            format!(in alloc; "name {page} {slug}")
-        }
-        Ok(Call::Run(_)) => String::from_str(alloc, "another command"),
-        Ok(Call::Page(page)) => {
-            let page = page.get();
-            format!(in alloc; "card {page}")
-        }
-        Ok(Call::Public(url)) => {
-            let url = text_of(url.as_slice());
-            format!(in alloc; "public {url}")
-        }
-        Err(fault) => String::from_str(alloc, fault_in_short(fault)),
-    }
-}
-
-/// What a request of this method, path and body asks, in short.
-fn asked(
-    alloc: Global,
-    routes: &Routes,
-    method: Method,
-    path: &[u8],
-    body: &[u8],
-) -> Result<String, AllocError> {
-    in_short(alloc, &routes.to_call(alloc, &request(method, path, body)))
-}
 
 /// A text so many times.
 fn repeated(alloc: Global, text: &str, count: usize) -> Result<String, AllocError> {

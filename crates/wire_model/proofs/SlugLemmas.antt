@@ -10,16 +10,17 @@ use Rattle.site_ids.specs.Slug.{is_slug_byte, IsSlug}
 use Rattle.site_ids.specs.declared.slug.TheConstants.{MAX_SLUG_BYTES}
 use Rattle.site_types.specs.Content.{ContentValue}
 use Rattle.site_types.specs.declared.command.Command.{Command}
-use Rattle.site_types.specs.declared.command.Command.TheVariants.{Delete}
+use Rattle.site_types.specs.declared.command.Command.TheVariants.{Delete, DefineGroup}
+use Rattle.site_types.specs.declared.permission.Permission.{Permission}
 use Rattle.site_types.specs.declared.position.Position.{Position}
+use Rattle.site_model.specs.Laws.{FitsCaller}
 use Rattle.http_model.specs.Requests.{Request}
 use Rattle.json_model.specs.Members.{has_exactly, is_slug, slug_of}
 use Rattle.wire_model.specs.declared.call.Call.TheVariants.{Run}
 use Rattle.wire_model.specs.declared.form.CommandForm.{CommandForm}
 use Rattle.wire_model.specs.declared.form.CommandForm.TheVariants as forms
-use Rattle.wire_model.specs.Forms.{id_at, slug_at, content_at, position_at, creation_of, move_of, slug_change_of, command_in}
+use Rattle.wire_model.specs.Forms.{id_at, slug_at, content_at, position_at, permission_at, truth_at, user_at, group_at, digest_at, creation_of, move_of, slug_change_of, user_definition_of, membership_of, grant_asked_of, command_in}
 use Rattle.wire_model.specs.Routes.{call_of}
-use Rattle.wire_model.specs.Laws.{HasSlug}
 use Rattle.wire_model.proofs.AskedLemmas.{AreSuch, such_if, asked_is}
 
 -- a text, where there is one, is a slug
@@ -60,7 +61,7 @@ member_slug None = tt
 
 -- a command, where there is one, has a slug
 abbrev AreSlugged : Option Command → Type 0
-AreSlugged asked = AreSuch HasSlug asked
+AreSlugged asked = AreSuch FitsCaller asked
 
 -- a creation has one, where its slug is
 creation_slugged : (parent : Option ℕ) (slug : Option (List ℕ)) (content : Option ContentValue) →
@@ -90,32 +91,77 @@ change_slugged (Some page) (Some slug) is = is
 change_slugged (Some page) None is = tt
 change_slugged None slug is = tt
 
+-- nor does the definition of a user
+user_slugged : (digest : Option (List ℕ)) (superuser : Option Bool) →
+    AreSlugged (user_definition_of digest superuser)
+user_slugged (Some digest) (Some superuser) = tt
+user_slugged (Some digest) None = tt
+user_slugged None superuser = tt
+
+-- nor a membership
+member_slugged : (user group : Option ℕ) (on : Option Bool) →
+    AreSlugged (membership_of user group on)
+member_slugged (Some user) (Some group) (Some on) = tt
+member_slugged (Some user) (Some group) None = tt
+member_slugged (Some user) None on = tt
+member_slugged None group on = tt
+
+-- nor a grant
+grant_slugged : (group page : Option ℕ) (permission : Option Permission) (on : Option Bool) →
+    AreSlugged (grant_asked_of group page permission on)
+grant_slugged (Some group) (Some page) (Some permission) (Some on) = tt
+grant_slugged (Some group) (Some page) (Some permission) None = tt
+grant_slugged (Some group) (Some page) None on = tt
+grant_slugged (Some group) None permission on = tt
+grant_slugged None page permission on = tt
+
 -- what an object asks for by a form has one
 form_slugged : (form : CommandForm) (value : Data) → AreSlugged (command_in form value)
 form_slugged forms.Create value =
     let parent = id_at (codes "parent") value in
     let slug = slug_at value in
     let content = content_at value in
-    such_if HasSlug (has_exactly (codes "content" ∷ codes "parent" ∷ codes "slug" ∷ []) value)
+    such_if FitsCaller (has_exactly (codes "content" ∷ codes "parent" ∷ codes "slug" ∷ []) value)
     (creation_of parent slug content)
     (creation_slugged parent slug content (member_slug (get (codes "slug") value)))
 form_slugged forms.Move value =
     let page = id_at (codes "page") value in
     let target = id_at (codes "target") value in
     let position = position_at value in
-    such_if HasSlug (has_exactly (codes "page" ∷ codes "position" ∷ codes "target" ∷ []) value)
+    such_if FitsCaller (has_exactly (codes "page" ∷ codes "position" ∷ codes "target" ∷ []) value)
     (move_of page target position) (move_slugged page target position)
 form_slugged forms.Delete value =
     let page = id_at (codes "page") value in
-    such_if HasSlug (has_exactly (codes "page" ∷ []) value) (option_map Delete page)
+    such_if FitsCaller (has_exactly (codes "page" ∷ []) value) (option_map Delete page)
     (deletion_slugged page)
 form_slugged forms.SetSlug value =
     let page = id_at (codes "page") value in
     let slug = slug_at value in
-    such_if HasSlug (has_exactly (codes "page" ∷ codes "slug" ∷ []) value) (slug_change_of page slug)
+    such_if FitsCaller (has_exactly (codes "page" ∷ codes "slug" ∷ []) value) (slug_change_of page slug)
     (change_slugged page slug (member_slug (get (codes "slug") value)))
+form_slugged forms.DefineUser value =
+    let digest = digest_at value in
+    let superuser = truth_at (codes "superuser") value in
+    such_if FitsCaller (has_exactly (codes "digest" ∷ codes "superuser" ∷ []) value)
+    (user_definition_of digest superuser) (user_slugged digest superuser)
+form_slugged forms.DefineGroup value =
+    such_if FitsCaller (has_exactly [] value) (Some DefineGroup) tt
+form_slugged forms.Member value =
+    let user = user_at value in
+    let group = group_at value in
+    let on = truth_at (codes "on") value in
+    such_if FitsCaller (has_exactly (codes "group" ∷ codes "on" ∷ codes "user" ∷ []) value)
+    (membership_of user group on) (member_slugged user group on)
+form_slugged forms.Grant value =
+    let group = group_at value in
+    let page = id_at (codes "page") value in
+    let permission = permission_at value in
+    let on = truth_at (codes "on") value in
+    such_if FitsCaller
+    (has_exactly (codes "group" ∷ codes "on" ∷ codes "page" ∷ codes "permission" ∷ []) value)
+    (grant_asked_of group page permission on) (grant_slugged group page permission on)
 
 -- each command that a request can ask for has a slug by the rule, where it gives one
 pub routes_give_slugs : (request : Request) (command : Command) →
-    call_of request ≡ Ok (Run command) → HasSlug command
-routes_give_slugs = asked_is HasSlug form_slugged
+    call_of request ≡ Ok (Run command) → FitsCaller command
+routes_give_slugs = asked_is FitsCaller form_slugged

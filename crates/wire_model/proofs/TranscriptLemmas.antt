@@ -65,9 +65,9 @@ called_by_legal tally moment call None = tt
 called_with_legal : (tally : Tally World) (moment : ℕ) (token : Option (List ℕ)) (call : Call) →
     AddsLegal tally (called_with tally moment token call)
 called_with_legal tally moment token (Run command) =
-    called_by_legal tally moment (Run command) (user_of token)
+    called_by_legal tally moment (Run command) (user_of tally.world token)
 called_with_legal tally moment token (Page id) =
-    called_by_legal tally moment (Page id) (user_of token)
+    called_by_legal tally moment (Page id) (user_of tally.world token)
 called_with_legal tally moment token (Public url) = tt
 
 -- so is what a request asks for

@@ -1,11 +1,12 @@
 -- The cards of pages: what a page's row, its URL and the content that it shows tell.
-use Rattle.std.specs.Prelude.{ℕ, ◌==◌, List, [], length, codes, find, Option, Some, None, option_map, option_and_then}
+use Rattle.std.specs.Prelude.{ℕ, ◌==◌, ◌&&◌, bytes_eq, List, [], length, codes, find, Option, Some, None, option_map, option_and_then}
 use Rattle.page_tree.specs.Rows.{Row, rows_of, row_with}
 use Rattle.step_path.specs.Path.{path_text}
 use Rattle.site_types.specs.Content.{ContentValue}
 use Rattle.site_types.specs.declared.body.Body.{Body}
 use Rattle.site_types.specs.declared.revision.Revision.{Revision}
 use Rattle.site_model.specs.World.{World}
+use Rattle.site_model.specs.Rights.{is_live}
 use Rattle.public_view.specs.declared.card.Card.{Card}
 
 -- what the root shows: the title `Root`, and no blocks
@@ -49,3 +50,10 @@ card_from revisions row = card_showing row (shown_revision revisions row.body)
 abbrev pub card_of : World → ℕ → Option Card
 card_of world id =
     option_map (card_from world.part.revisions) (row_with id (rows_of world.part.tree))
+
+-- the page with this URL, where there is one and it is live
+abbrev pub live_page : World → List ℕ → Option ℕ
+live_page world url =
+    option_map (λ row. row.id)
+    (find (λ row. bytes_eq row.url url && is_live world.part.tree row.body)
+    (rows_of world.part.tree))

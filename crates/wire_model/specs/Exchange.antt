@@ -1,8 +1,8 @@
 -- The exchange of one request: which answer it gets after a history, and what that adds to it.
-use Rattle.std.specs.Prelude.{ℕ, Bool, true, false, ◌+◌, List, [], ◌∷◌, ◌++◌, bytes_eq, Option, Some, None, Result, Ok, Err, if◌then◌else◌}
-use Rattle.std.specs.Bool.{then_some}
+use Rattle.std.specs.Prelude.{ℕ, Bool, true, false, ◌+◌, List, [], ◌∷◌, ◌++◌, Option, Some, None, Result, Ok, Err, if◌then◌else◌}
+use Rattle.sha2.specs.Sha256.{sha256}
 use Rattle.site_types.specs.declared.command.Command.{Command}
-use Rattle.site_types.specs.declared.command.Command.TheVariants.{Create, Move, Delete, SetSlug}
+use Rattle.site_types.specs.declared.command.Command.TheVariants.{Create, Move, Delete, SetSlug, DefineUser, DefineGroup, Member, Grant}
 use Rattle.site_types.specs.declared.entry.Entry.{Entry}
 use Rattle.site_types.specs.declared.refusal.Refusal.{Refusal}
 use Rattle.site_types.specs.declared.refusal.Refusal.TheVariants.{NoPage}
@@ -10,6 +10,7 @@ use Rattle.site_types.specs.declared.reply.Reply.{Reply}
 use Rattle.site_history.specs.History.{Tally, History, Item, accepted}
 use Rattle.site_history.specs.History as histories
 use Rattle.site_model.specs.World.{World}
+use Rattle.site_model.specs.Rights as rights
 use Rattle.site_model.specs.Step.{step}
 use Rattle.http_model.specs.Requests.{Request}
 use Rattle.public_view.specs.declared.card.Card.{Card}
@@ -19,7 +20,6 @@ use Rattle.wire_model.specs.declared.call.Call.{Call}
 use Rattle.wire_model.specs.declared.call.Call.TheVariants.{Run, Page, Public}
 use Rattle.wire_model.specs.declared.call.RouteFault.{RouteFault}
 use Rattle.wire_model.specs.declared.call.RouteFault.TheVariants as faults
-use Rattle.wire_model.specs.declared.words.TheConstants.{KNOWN_TOKEN}
 use Rattle.wire_model.specs.Cards.{card_of}
 use Rattle.wire_model.specs.Routes.{call_of}
 
@@ -43,10 +43,10 @@ IsLegal past = histories.IsLegal step number_of past
 abbrev pub grown_by : Past → List (Item Entry Reply) → Past
 grown_by past items = record { start = past.start; items = past.items ++ items }
 
--- the user of a token: the one token that is known is user 1's
-abbrev pub user_of : Option (List ℕ) → Option ℕ
-user_of None = None
-user_of (Some token) = then_some (bytes_eq token KNOWN_TOKEN.now) 1
+-- the user of a token: the one whose token has its SHA-256 digest (FIPS 180-4)
+abbrev pub user_of : World → Option (List ℕ) → Option ℕ
+user_of world None = None
+user_of world (Some token) = rights.user_of (sha256 token) world.part.users
 
 -- The commands that are built so far, whatever the world is. Each command that a request can ask
 -- for is built (`RoutesAreBuilt` in Laws.antt), so that no request is told that its command is not:
@@ -56,6 +56,10 @@ is_built (Create parent slug content) = true
 is_built (Move page target position) = true
 is_built (Delete page) = true
 is_built (SetSlug page slug) = true
+is_built (DefineUser superuser digest) = true
+is_built DefineGroup = true
+is_built (Member user group on) = true
+is_built (Grant group page permission on) = true
 is_built _ = false
 
 -- the entry of a command by a user at a moment, with a number
@@ -108,7 +112,7 @@ called_by tally moment call None = telling answers.NoUser
 -- what a call comes to: what is for everybody asks for no token
 abbrev pub called_with : Tally World → ℕ → Option (List ℕ) → Call → Outcome
 called_with tally moment token (Public url) = telling answers.NotFound
-called_with tally moment token call = called_by tally moment call (user_of token)
+called_with tally moment token call = called_by tally moment call (user_of tally.world token)
 
 -- the answer to a request that asks nothing of the site
 abbrev pub fault_answer : RouteFault → Answer

@@ -1,14 +1,18 @@
 -- The forms of commands: the path of each form's route, and which command a body asks for there.
-use Rattle.std.specs.Prelude.{ℕ, ◌==◌, List, [], ◌∷◌, ◌++◌, length, codes, Option, Some, None, option_map, option_and_then, bytes_eq, if◌then◌else◌}
+use Rattle.std.specs.Prelude.{ℕ, Bool, ◌+◌, ◌-◌, ◌*◌, ◌==◌, List, [], ◌∷◌, ◌++◌, length, codes, Option, Some, None, option_map, option_and_then, bytes_eq, if◌then◌else◌}
 use Rattle.std.specs.Str.{is_utf8}
 use Rattle.serde_json.specs.Data.{Data}
 use Rattle.serde_json.specs.Find.{get, as_str}
 use Rattle.serde_json.specs.Read.{read}
-use Rattle.json_model.specs.Members.{has_exactly, id_of, slug_of}
+use Rattle.json_model.specs.Members.{has_exactly, text_at, id_of, slug_of, truth_of, whole_within, is_within}
 use Rattle.json_model.specs.Content.{content_of}
 use Rattle.site_types.specs.Content.{ContentValue}
 use Rattle.site_types.specs.declared.command.Command.{Command}
-use Rattle.site_types.specs.declared.command.Command.TheVariants.{Create, Move, Delete, SetSlug}
+use Rattle.site_ids.specs.declared.digest.TheConstants.{DIGEST_BYTES}
+use Rattle.site_ids.specs.declared.ids.TheConstants.{LAST_USER_ID, LAST_GROUP_ID}
+use Rattle.site_types.specs.declared.command.Command.TheVariants.{Create, Move, Delete, SetSlug, DefineUser, DefineGroup, Member, Grant}
+use Rattle.site_types.specs.declared.permission.Permission.{Permission}
+use Rattle.site_types.specs.declared.permission.Permission.TheVariants.{Add, Change, Publish, BulkDelete, Lock, Unlock}
 use Rattle.site_types.specs.declared.position.Position.{Position}
 use Rattle.site_types.specs.declared.position.Position.TheVariants.{FirstChild, LastChild, FirstSibling, Left, Right, LastSibling}
 use Rattle.wire_model.specs.declared.form.CommandForm.{CommandForm}
@@ -23,7 +27,9 @@ named name_of (a ∷ others) text =
 
 -- the forms of commands whose routes are built
 abbrev pub all_forms : List CommandForm
-all_forms = forms.Create ∷ forms.Move ∷ forms.Delete ∷ forms.SetSlug ∷ []
+all_forms =
+    forms.Create ∷ forms.Move ∷ forms.Delete ∷ forms.SetSlug
+    ∷ forms.DefineUser ∷ forms.DefineGroup ∷ forms.Member ∷ forms.Grant ∷ []
 
 -- what stands behind `/api/` in the path of a form's route
 abbrev pub form_name : CommandForm → List ℕ
@@ -31,6 +37,10 @@ form_name forms.Create = codes "pages"
 form_name forms.Move = codes "move"
 form_name forms.Delete = codes "delete"
 form_name forms.SetSlug = codes "slug"
+form_name forms.DefineUser = codes "users"
+form_name forms.DefineGroup = codes "groups"
+form_name forms.Member = codes "members"
+form_name forms.Grant = codes "grants"
 
 -- the path of a form's route
 abbrev pub form_path : CommandForm → List ℕ
@@ -77,6 +87,60 @@ content_at value = option_and_then content_of (get (codes "content") value)
 abbrev pub position_at : Data → Option Position
 position_at value = option_and_then position_of (get (codes "position") value)
 
+-- every permission
+abbrev pub all_permissions : List Permission
+all_permissions = Add ∷ Change ∷ Publish ∷ BulkDelete ∷ Lock ∷ Unlock ∷ []
+
+-- the text of a permission
+abbrev pub permission_text : Permission → List ℕ
+permission_text Add = codes "add"
+permission_text Change = codes "change"
+permission_text Publish = codes "publish"
+permission_text BulkDelete = codes "bulk_delete"
+permission_text Lock = codes "lock"
+permission_text Unlock = codes "unlock"
+
+-- the permission at the member permission: a text that is one's
+abbrev pub permission_at : Data → Option Permission
+permission_at value =
+    option_and_then (named permission_text all_permissions)
+    (text_at (codes "permission") value)
+
+-- the truth value at a member
+abbrev pub truth_at : List ℕ → Data → Option Bool
+truth_at name value = option_and_then truth_of (get name value)
+
+-- the id of a user at the member user: a whole number from 1 to 65,535
+abbrev pub user_at : Data → Option ℕ
+user_at value = option_and_then (whole_within 1 LAST_USER_ID) (get (codes "user") value)
+
+-- the id of a group at the member group: a whole number from 1 to 65,535
+abbrev pub group_at : Data → Option ℕ
+group_at value = option_and_then (whole_within 1 LAST_GROUP_ID) (get (codes "group") value)
+
+-- the number that a lower-case hexadecimal digit writes
+abbrev pub hex_digit : ℕ → Option ℕ
+hex_digit b =
+    if is_within 48 57 b
+    then Some (b - 48)
+    else if is_within 97 102 b then Some (b - 87) else None
+
+-- the bytes that pairs of lower-case hexadecimal digits write, the higher digit first
+abbrev pub hex_bytes : List ℕ → Option (List ℕ)
+hex_bytes [] = Some []
+hex_bytes (high ∷ []) = None
+hex_bytes (high ∷ low ∷ text) =
+    option_and_then (λ h. option_and_then (λ l. option_map (λ bytes. (h * 16 + l) ∷ bytes)
+    (hex_bytes text)) (hex_digit low)) (hex_digit high)
+
+-- the digest that 64 lower-case hexadecimal digits write
+abbrev pub digest_of : List ℕ → Option (List ℕ)
+digest_of text = if length text == 2 * DIGEST_BYTES then hex_bytes text else None
+
+-- the digest at the member digest
+abbrev pub digest_at : Data → Option (List ℕ)
+digest_at value = option_and_then digest_of (text_at (codes "digest") value)
+
 -- the creation of a page with this slug and content below this parent
 abbrev pub creation_of : Option ℕ → Option (List ℕ) → Option ContentValue → Option Command
 creation_of (Some parent) (Some slug) (Some content) = Some (Create parent slug content)
@@ -120,12 +184,58 @@ slug_change_in value =
     then slug_change_of (id_at (codes "page") value) (slug_at value)
     else None
 
+-- the definition of a user with this digest
+abbrev pub user_definition_of : Option (List ℕ) → Option Bool → Option Command
+user_definition_of (Some digest) (Some superuser) = Some (DefineUser superuser digest)
+user_definition_of digest superuser = None
+
+-- the definition of a user that an object asks for: it has exactly the members digest and superuser
+abbrev pub user_definition_in : Data → Option Command
+user_definition_in value =
+    if has_exactly (codes "digest" ∷ codes "superuser" ∷ []) value
+    then user_definition_of (digest_at value) (truth_at (codes "superuser") value)
+    else None
+
+-- the definition of a group that an object asks for: it has no members
+abbrev pub group_definition_in : Data → Option Command
+group_definition_in value = if has_exactly [] value then Some DefineGroup else None
+
+-- the membership of this user in this group, or its end
+abbrev pub membership_of : Option ℕ → Option ℕ → Option Bool → Option Command
+membership_of (Some user) (Some group) (Some on) = Some (Member user group on)
+membership_of user group on = None
+
+-- the membership that an object asks for: it has exactly the members group, on and user
+abbrev pub membership_in : Data → Option Command
+membership_in value =
+    if has_exactly (codes "group" ∷ codes "on" ∷ codes "user" ∷ []) value
+    then membership_of (user_at value) (group_at value) (truth_at (codes "on") value)
+    else None
+
+-- the grant of this permission at this page to this group, or its end
+abbrev pub grant_asked_of : Option ℕ → Option ℕ → Option Permission → Option Bool → Option Command
+grant_asked_of (Some group) (Some page) (Some permission) (Some on) =
+    Some (Grant group page permission on)
+grant_asked_of group page permission on = None
+
+-- the grant that an object asks for: it has exactly the members group, on, page and permission
+abbrev pub grant_in : Data → Option Command
+grant_in value =
+    if has_exactly (codes "group" ∷ codes "on" ∷ codes "page" ∷ codes "permission" ∷ []) value
+    then grant_asked_of (group_at value) (id_at (codes "page") value) (permission_at value)
+    (truth_at (codes "on") value)
+    else None
+
 -- the command of a form that an object asks for
 abbrev pub command_in : CommandForm → Data → Option Command
 command_in forms.Create value = creation_in value
 command_in forms.Move value = move_in value
 command_in forms.Delete value = deletion_in value
 command_in forms.SetSlug value = slug_change_in value
+command_in forms.DefineUser value = user_definition_in value
+command_in forms.DefineGroup value = group_definition_in value
+command_in forms.Member value = membership_in value
+command_in forms.Grant value = grant_in value
 
 -- the command that a body asks for on the route of commands of a form
 unfoldable pub command_asked : CommandForm → List ℕ → Option Command

@@ -1,8 +1,7 @@
 -- The laws of transcripts, each proved in src/laws.rt.
 use Rattle.std.specs.Prelude.{◌≡◌, ℕ, ◌≤◌, List, ◌++◌, length, Option, IsSome, IsTrue, Ok}
-use Rattle.site_ids.specs.Slug.{IsSlug}
 use Rattle.site_types.specs.declared.command.Command.{Command}
-use Rattle.site_types.specs.declared.command.Command.TheVariants.{Create, SetSlug}
+use Rattle.site_model.specs.Laws.{FitsCaller}
 use Rattle.http_model.specs.Requests.{Request, whole, IsFront}
 use Rattle.wire_model.specs.declared.call.Call.TheVariants.{Run}
 use Rattle.wire_model.specs.Routes.{call_of}
@@ -78,13 +77,8 @@ RoutesAreBuilt =
     (request : Request) (command : Command) →
     call_of request ≡ Ok (Run command) → IsTrue (is_built command)
 
--- the slug that a command gives a page, where it gives one, is by the rule of slugs
-abbrev pub HasSlug : Command → Type 0
-HasSlug (Create parent slug content) = IsSlug slug
-HasSlug (SetSlug page slug) = IsSlug slug
-HasSlug _ = Unit {0}
-
--- each command that a request can ask for has such a slug
+-- the slug of each command that a request can ask for is by the rule of slugs
 abbrev pub RoutesGiveSlugs : Type 0
 RoutesGiveSlugs =
-    (request : Request) (command : Command) → call_of request ≡ Ok (Run command) → HasSlug command
+    (request : Request) (command : Command) →
+    call_of request ≡ Ok (Run command) → FitsCaller command

@@ -48,8 +48,8 @@ unbuilt_names =
     codes "alias" ∷ codes "detach" ∷ codes "copy" ∷ codes "open" ∷ codes "save" ∷ codes "shut"
     ∷ codes "file" ∷ codes "publish" ∷ codes "unpublish" ∷ codes "unschedule" ∷ codes "lock"
     ∷ codes "unlock" ∷ codes "purge" ∷ codes "tasks" ∷ codes "workflows" ∷ codes "assign"
-    ∷ codes "submit" ∷ codes "approve" ∷ codes "reject" ∷ codes "cancel" ∷ codes "users"
-    ∷ codes "groups" ∷ codes "members" ∷ codes "grants" ∷ codes "tick" ∷ codes "checkpoint" ∷ []
+    ∷ codes "submit" ∷ codes "approve" ∷ codes "reject" ∷ codes "cancel" ∷ codes "tick"
+    ∷ codes "checkpoint" ∷ []
 
 -- whether the path is that of a command which is not built yet
 abbrev pub is_unbuilt_command : List ℕ → Bool

@@ -11,4 +11,12 @@ pub enum CommandForm {
     Delete,
     /// Another slug for a page: page and slug.
     SetSlug,
+    /// The definition of a user: digest and superuser.
+    DefineUser,
+    /// The definition of a group: no members.
+    DefineGroup,
+    /// A membership that begins or ends: group, on and user.
+    Member,
+    /// A grant that is given or withdrawn: group, on, page and permission.
+    Grant,
 }

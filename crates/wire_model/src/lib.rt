@@ -11,4 +11,4 @@ mod words;
 pub use answer::Answer;
 pub use call::{Call, RouteFault};
 pub use form::CommandForm;
-pub use words::{ANSWER_LIMIT, API, API_FRONT, CARD_FRONT, DESKS_FRONT, KNOWN_TOKEN, REFS_FRONT};
+pub use words::{ANSWER_LIMIT, API, API_FRONT, CARD_FRONT, DESKS_FRONT, REFS_FRONT};

@@ -1,10 +1,7 @@
 //! The paths of routes, and the limit of answers.
 
 /// How many requests a session answers at the most.
-pub const ANSWER_LIMIT: usize = 1_000;
-
-/// The one token that is known: it is user 1's.
-pub const KNOWN_TOKEN: &[u8] = b"abc";
+pub const ANSWER_LIMIT: usize = 1_000_000;
 
 /// The path of all that is not for everybody.
 pub const API: &[u8] = b"/api";

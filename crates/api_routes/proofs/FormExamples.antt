@@ -1,0 +1,98 @@
+-- The definition of the commands on users, groups, memberships and grants at worked values.
+use Rattle.std.proofs.Common.{◌≡◌, ℕ, List, [], ◌∷◌, Some, None, refl, codes, true, false}
+use Rattle.serde_json.specs.Data.{Data, boolean, unsigned, number, string, array, object, no_items, no_members, member}
+use Rattle.site_types.specs.declared.command.Command.TheVariants.{DefineUser, DefineGroup, Member, Grant}
+use Rattle.site_types.specs.declared.permission.Permission.TheVariants.{BulkDelete}
+use Rattle.wire_model.specs.Forms.{hex_bytes, digest_of, user_definition_in, group_definition_in, membership_in, grant_in}
+
+-- the SHA-256 digest of `hello`, as bytes
+abbrev hello : List ℕ
+hello =
+    44 ∷ 242 ∷ 77 ∷ 186 ∷ 95 ∷ 176 ∷ 163 ∷ 14 ∷ 38 ∷ 232 ∷ 59 ∷ 42 ∷ 197 ∷ 185 ∷ 226 ∷ 158
+    ∷ 27 ∷ 22 ∷ 30 ∷ 92 ∷ 31 ∷ 167 ∷ 66 ∷ 94 ∷ 115 ∷ 4 ∷ 51 ∷ 98 ∷ 147 ∷ 139 ∷ 152 ∷ 36 ∷ []
+
+-- it is read from its digits
+a_digest : digest_of (codes "2cf24dba5fb0a30e26e83b2ac5b9e29e1b161e5c1fa7425e73043362938b9824")
+    ≡ Some hello
+a_digest = refl
+
+-- two digits write a byte, the higher first
+a_byte : hex_bytes (codes "1f") ≡ Some (31 ∷ [])
+a_byte = refl
+
+-- a digit in upper case is none
+upper_case : hex_bytes (codes "1F") ≡ None
+upper_case = refl
+
+-- nor is a letter behind `f`
+a_letter_too_far : hex_bytes (codes "1g") ≡ None
+a_letter_too_far = refl
+
+-- nor is one digit alone
+an_odd_digit : hex_bytes (codes "1f0") ≡ None
+an_odd_digit = refl
+
+-- a text that is too short is no digest
+too_short : digest_of (codes "1f") ≡ None
+too_short = refl
+
+-- {"digest":"2cf2..","superuser":..} with this value
+abbrev user_object : Data → Data
+user_object superuser =
+    object
+    (member (codes "digest")
+    (string (codes "2cf24dba5fb0a30e26e83b2ac5b9e29e1b161e5c1fa7425e73043362938b9824"))
+    (member (codes "superuser") superuser no_members))
+
+-- it is read, and a number is no truth value
+a_user : user_definition_in (user_object (boolean false)) ≡ Some (DefineUser false hello)
+a_user = refl
+
+-- no truth value
+no_user : user_definition_in (user_object (number (unsigned 1))) ≡ None
+no_user = refl
+
+-- a group has no members, and an empty array is no object
+a_group : group_definition_in (object no_members) ≡ Some DefineGroup
+a_group = refl
+
+-- no object
+no_group : group_definition_in (array no_items) ≡ None
+no_group = refl
+
+-- {"group":1,"on":true,"user":..} with this user
+abbrev member_object : ℕ → Data
+member_object user =
+    object
+    (member (codes "group") (number (unsigned 1))
+    (member (codes "on") (boolean true)
+    (member (codes "user") (number (unsigned user)) no_members)))
+
+-- the last user joins group 1
+a_member : membership_in (member_object 65535) ≡ Some (Member 65535 1 true)
+a_member = refl
+
+-- no user has the id 0
+no_member : membership_in (member_object 0) ≡ None
+no_member = refl
+
+-- nor one past the last
+past_the_last : membership_in (member_object 65536) ≡ None
+past_the_last = refl
+
+-- {"group":2,"on":false,"page":3,"permission":..} with this permission
+abbrev grant_object : List ℕ → Data
+grant_object permission =
+    object
+    (member (codes "group") (number (unsigned 2))
+    (member (codes "on") (boolean false)
+    (member (codes "page") (number (unsigned 3))
+    (member (codes "permission") (string permission) no_members))))
+
+-- a grant to group 2 at page 3 ends
+a_grant : grant_in (grant_object (codes "bulk_delete")) ≡ Some (Grant 2 3 BulkDelete false)
+a_grant = refl
+
+-- other letters name no permission
+other_letters : grant_in (grant_object (codes "ADD")) ≡ None
+other_letters = refl

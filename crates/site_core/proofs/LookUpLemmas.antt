@@ -23,9 +23,3 @@ found_row found id tree pages is stands =
     same_sides (Some x) (Some y) h = refl
     same_sides None (Some y) h = absurd (cc)
     same_sides (Some x) None h = absurd (cc)
-
--- so is it looked for by the rows alone
-pub row_there : (id : ℕ) (tree : Forest Body) (pages : List (Row Body)) → pages ≡ rows_of tree →
-    is_some (row_with id pages) ≡ has_page id tree
-row_there id tree pages stands =
-    ap (λ rows. is_some (row_with id rows)) stands ∙ sym (has_page-rows id None [] [] tree)

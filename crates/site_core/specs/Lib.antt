@@ -1,5 +1,5 @@
-pub mod Faults
+pub mod Changing
+pub mod Ending
+pub mod Finding
+pub mod People
 pub mod Standing
-pub mod Plans
-pub mod Making
-pub mod Moving

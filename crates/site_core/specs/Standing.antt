@@ -1,62 +1,43 @@
--- How the site in memory stands for a world, and what a command leaves.
-use Rattle.std.specs.Prelude.{◌≡◌, ℕ, List, Result, Ok, Err}
-use Rattle.page_tree.specs.Rows.{Row, rows_of}
-use Rattle.site_types.specs.declared.body.Body.{Body}
+-- How the site in memory stands for a world, and what is told of a command before and after it.
+use Rattle.std.specs.Prelude.{◌≡◌, ℕ, [], Result, Ok, Err}
 use Rattle.site_types.specs.declared.command.Command.{Command}
 use Rattle.site_types.specs.declared.reply.Reply.{Reply}
-use Rattle.site_types.specs.declared.revision.Revision.{Revision}
-use Rattle.site_model.specs.World.{TreePart, Effect}
-use Rattle.site_model.specs.Step.{tree_step}
-use Rattle.site_model.specs.Sound.{IsSound}
-use Rattle.site_core.specs.declared.fault.Fault.{Fault}
-use Rattle.site_core.specs.declared.fault.Fault.TheVariants.{Refused, Memory}
+use Rattle.site_model.specs.World.{World}
+use Rattle.site_model.specs.Reached.{IsReached}
+use Rattle.site_model.specs.Step.{step_at}
+use Rattle.grants.specs.declared.fault.Fault.{Fault}
+use Rattle.grants.specs.declared.fault.Fault.TheVariants.{Refused, Memory}
+use Rattle.grants.specs.declared.plan.Plan.{Plan}
+use Rattle.grants.specs.Plans as parts
+use Rattle.grants.specs.Standing as parts_stand
+use Rattle.site_core.specs.declared.state.Core.{Core}
 
--- What the site has: the rows of its pages, their revisions, the time and the next ids; and how many
--- pages and revisions more can be put in without taking memory.
-pub record Kept : Type 0 where
-  pub pages : List (Row Body)
-  pub revisions : List Revision
-  pub time : ℕ
-  pub next_page : ℕ
-  pub next_revision : ℕ
-  pub page_room : ℕ
-  pub revision_room : ℕ
+-- What is in memory is what the world has. No desk can be opened yet, so that there are no texts.
+pub record StandsFor (core : Core) (world : World) : Type 0 where
+  pub tree : parts_stand.StandsFor core.tree world.part
+  pub no_texts : world.texts ≡ []
 
--- all but the room is as it was
-pub record IsSame (before after : Kept) : Type 0 where
-  pub pages : after.pages ≡ before.pages
-  pub revisions : after.revisions ≡ before.revisions
-  pub time : after.time ≡ before.time
-  pub next_page : after.next_page ≡ before.next_page
-  pub next_revision : after.next_revision ≡ before.next_revision
+-- What is in memory stands for a world that commands reach.
+pub record IsReady (core : Core) (world : World) : Type 0 where
+  pub stands : StandsFor core world
+  pub reached : IsReached world
 
--- The site has what the world has: the rows of its tree, the revisions, the time and the next ids.
-pub record StandsFor (kept : Kept) (part : TreePart) : Type 0 where
-  pub pages : kept.pages ≡ rows_of part.tree
-  pub revisions : kept.revisions ≡ part.revisions
-  pub time : kept.time ≡ part.time
-  pub next_page : kept.next_page ≡ part.next_page
-  pub next_revision : kept.next_revision ≡ part.next_revision
-
--- The site stands for a sound world.
-pub record IsReady (kept : Kept) (part : TreePart) : Type 0 where
-  pub stands : StandsFor kept part
-  pub sound : IsSound part
-
--- A command was accepted with this reply, and the site stands for the world after it.
-pub record Accepts
-    (part : TreePart) (caller now : ℕ) (command : Command) (reply : Reply) (kept : Kept) :
+-- A command has a plan, which can be committed: it answers and leaves what the step does.
+pub record HasPlan (core : Core) (world : World) (now caller : ℕ) (command : Command) (plan : Plan) :
     Type 0 where
-  pub after : TreePart
-  pub effect : Effect Reply
-  pub step : tree_step part now caller command ≡ Ok (after, effect)
-  pub reply_is : reply ≡ effect.reply
-  pub stands : StandsFor kept after
+  pub after : World
+  pub reply : Reply
+  pub step : step_at world now caller command ≡ Ok (after, reply)
+  pub ready : IsReady core world
+  pub tree : parts.HasPlan core.tree world.part now caller command plan
+  pub reply_is : plan.reply ≡ reply
+  pub part_is : after.part ≡ tree.after
+  pub texts_are : after.texts ≡ []
 
--- What stands after a command, by how it went: it was accepted; or the step refuses it so, and the
--- site stands for the world as it was; or memory was refused, and the site stands for it too.
-abbrev pub Runs : TreePart → ℕ → ℕ → Command → Result Reply Fault → Kept → Type 0
-Runs part caller now command (Ok reply) kept = Accepts part caller now command reply kept
-Runs part caller now command (Err (Refused refusal)) kept =
-    (tree_step part now caller command ≡ Err refusal) × StandsFor kept part
-Runs part caller now command (Err Memory) kept = StandsFor kept part
+-- What is told of a command before it changes anything: a plan exactly where the step accepts it, or
+-- the step's refusal. Want of memory says nothing.
+abbrev pub Prepares : World → ℕ → ℕ → Command → Core → Result Plan Fault → Type 0
+Prepares world now caller command core (Ok plan) = HasPlan core world now caller command plan
+Prepares world now caller command core (Err (Refused refusal)) =
+    step_at world now caller command ≡ Err refusal
+Prepares world now caller command core (Err Memory) = Unit {0}

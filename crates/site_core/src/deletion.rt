@@ -1,53 +1,63 @@
-//! Deletions of pages.
-ghost use Rattle.std.specs.Prelude.{◌≡◌, ℕ, is_some, filter, List};
+//! Deletions of pages, as they were planned.
+ghost use Rattle.std.specs.Prelude.{◌≡◌, ℕ, ◌==◌, not, filter};
+ghost use Rattle.std.specs.List.{AllByRecursion, list_any};
+ghost use Rattle.site_ids.specs.Ids.{IsPageId};
 ghost use Rattle.site_types.specs.declared.revision.Revision.{Revision as PageRevision};
-ghost use Rattle.page_tree.specs.Rows.{row_with};
-ghost use Rattle.site_types.specs.declared.command.Command.TheVariants.{Delete};
-ghost use Rattle.site_model.specs.World.{TreePart};
-ghost use Rattle.site_core.specs.Standing.{IsReady, Runs};
+ghost use Rattle.site_types.specs.declared.world_rows.Grant.{Grant as PageGrant};
+ghost use Rattle.grants.specs.declared.plan.Change.TheVariants as changes;
+ghost use Rattle.site_core.specs.Changing.{IsPlanned, Makes};
 
-use crate::{Core, Fault};
-use page_store::Rows;
-use path_moves::plan_delete;
-use site_types::{Moment, PageId, Refusal, Reply, Revision};
-use std::alloc::Global;
+use grants::{Grants, TreePart};
+use revision_shelf::Shelf;
+use site_types::{Ids, PageId};
 
-impl Core {
-    /// Deletes a page with all below it, and with their revisions.
-    ///
-    /// It costs a few look-ups for each page that goes and one for each revision that there is.
-    pub(crate) fn delete(
-        &mut self,
-        alloc: Global,
-        page: PageId,
-        now: Moment,
-    ) -> Result<Reply, Fault>
-        requires { (part : TreePart) × IsReady self.old part }
-        ensures { (part : TreePart) (caller : ℕ) → IsReady self.old part
-            → Runs part caller now (Delete page) result self.new }
-    {
-        if self.rows.row(page).is_none() {
-            return Err(Fault::Refused(Refusal::NoPage(page)));
-        }
-        if page == PageId::root() {
-            return Err(Fault::Refused(Refusal::IsRoot));
-        }
-        let Ok(gone) = plan_delete(alloc, &self.rows, page) else {
-            return Err(Fault::Memory);
-        };
-        let time = self.later(now);
-        self.rows.remove_range(page);
-        keep_revisions(&mut self.revisions, &self.rows);
-        self.time = time;
-        Ok(Reply::Removed(gone.len() as u32))
+/// Takes a page out with all below it, and with their revisions and grants. It cannot fail.
+///
+/// It costs a few look-ups for each page that goes and for each of its revisions, and two searches
+/// among the grants for each page.
+pub(crate) fn take_out(part: &mut TreePart, page: PageId, gone: Ids)
+    requires { IsPlanned part.old (changes.Delete page gone) }
+    ensures { Makes part.old (changes.Delete page gone) part.new }
+{
+    part.rows.remove_range(page);
+    drop_revisions(&mut part.shelf, gone.as_slice());
+    drop_grants(&mut part.grants, gone.as_slice());
+}
+
+/// Takes the revisions of these pages out.
+fn drop_revisions(shelf: &mut Shelf, gone: &[u32])
+    requires { AllByRecursion IsPageId gone.now }
+    ensures { shelf.new.revisions
+        ≡ filter (λ (revision : PageRevision). not (list_any (λ id. id == revision.page) gone.now))
+        shelf.old.revisions }
+{
+    for number in gone {
+        shelf.drop_page(page_of(*number));
     }
 }
 
-/// Keeps the revisions of the pages that are there.
-fn keep_revisions(revisions: &mut Vec<Revision>, rows: &Rows)
-    ensures { revisions.new.items
-        ≡ filter (λ (revision : PageRevision). is_some (row_with revision.page rows.now.pages))
-        revisions.old.items }
+/// Withdraws all grants at these pages.
+fn drop_grants(grants: &mut Grants, gone: &[u32])
+    requires { AllByRecursion IsPageId gone.now }
+    ensures users { grants.new.users ≡ grants.old.users }
+    ensures groups { grants.new.groups ≡ grants.old.groups }
+    ensures members { grants.new.members ≡ grants.old.members }
+    ensures grants { grants.new.grants
+        ≡ filter (λ (grant : PageGrant). not (list_any (λ id. id == grant.page) gone.now))
+        grants.old.grants }
 {
-    revisions.retain(|revision| rows.row(revision.page).is_some());
+    for number in gone {
+        grants.drop_page(page_of(*number));
+    }
+}
+
+/// The page with this number.
+fn page_of(number: u32) -> PageId
+    requires { IsPageId number }
+    ensures { result ≡ number }
+{
+    match PageId::new(number) {
+        Some(page) => page,
+        None => unreachable!(),
+    }
 }

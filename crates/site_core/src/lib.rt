@@ -1,16 +1,19 @@
-//! The site in memory: commands on the tree of pages and their revisions.
+//! The site in memory: each command is prepared with all its memory, and then committed.
 #![tactic(auto)]
 
 mod card;
 mod creation;
 mod deletion;
-mod fault;
+mod done;
+mod finding;
+mod granting;
 mod moving;
-mod place;
+mod part;
+mod people;
 mod renaming;
 mod showing;
 mod state;
-mod telling;
 
-pub use fault::Fault;
+pub use done::Done;
+pub use part::{commit, prepare};
 pub use state::Core;

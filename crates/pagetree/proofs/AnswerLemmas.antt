@@ -1,5 +1,5 @@
 -- What a request comes to, by what it asks for.
-use Rattle.std.proofs.Common.{◌≡◌, ℕ, Result, Ok, Err, IfOk, refl, sym, ap, ◌∙◌}
+use Rattle.std.proofs.Common.{◌≡◌, ℕ, List, Option, Some, Result, Ok, Err, IfOk, refl, sym, ap, ◌∙◌}
 use Rattle.http_model.specs.Requests.{Request}
 use Rattle.site_history.specs.History.{Tally}
 use Rattle.site_model.specs.World.{World}
@@ -8,7 +8,9 @@ use Rattle.wire_model.specs.declared.answer.Answer.{Answer}
 use Rattle.wire_model.specs.declared.call.Call.{Call}
 use Rattle.wire_model.specs.declared.call.RouteFault.{RouteFault}
 use Rattle.wire_model.specs.declared.call.RouteFault.TheVariants.{Memory}
+use Rattle.wire_model.specs.Cards.{live_page}
 use Rattle.wire_model.specs.Routes.{call_of}
+use Rattle.wire_model.proofs.LiveLemmas.{no_live_page}
 use Rattle.wire_model.specs.Exchange.{telling, called_with, fault_answer, exchange}
 use Rattle.pagetree.specs.declared.site.Site.{Site}
 use Rattle.pagetree.specs.Standing.{IsReady, Answers}
@@ -36,5 +38,12 @@ pub answers_fault : (site : Site) (tally : Tally World) (request : Request) (mom
 answers_fault site tally request moment fault (Ok answer) ready is told =
     answers_telling site tally _ answer
     (exchange_fault tally request moment fault (is told.1) ∙ ap telling (sym told.0)) ready.stands
-    ready.orderly
+    ready.reached
 answers_fault site tally request moment fault (Err none) ready is told = tt
+
+-- no page is found for everybody
+pub nothing_live : (site : Site) (tally : Tally World) (url : List ℕ) (id : ℕ) →
+    IsReady site tally → Some id ≡ live_page tally.world url → ⊥
+nothing_live site tally url id ready is =
+    let none = no_live_page tally.world url ready.reached.part.drafts in
+    absurd (cc)

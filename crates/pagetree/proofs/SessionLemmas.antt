@@ -3,7 +3,7 @@ use Rattle.std.proofs.Common.{◌≡◌, ◌≤◌, ◌<◌, ◌+◌, ℕ, Bool,
 use Rattle.std.proofs.lemmas.List.{append-nil}
 use Rattle.outside_world.specs.Source.{with_front}
 use Rattle.outside_world.specs.Sink.{with_back}
-use Rattle.site_model.proofs.StartLemmas.{new_part_is_sound}
+use Rattle.site_model.proofs.ReachedSound.{new_world_is_reached}
 use Rattle.http_model.specs.Requests.{Request, whole, refused, IsFront}
 use Rattle.wire_model.specs.declared.words.TheConstants.{ANSWER_LIMIT}
 use Rattle.wire_model.specs.Exchange.{tally_of}
@@ -39,12 +39,8 @@ first_so_far site left taken coming stands = record {
   past = start;
   follows = λ more. (refl, refl);
   left_is = front_of_nothing left;
-  stands = stands abc_digest;
-  orderly = record {
-    sound = new_part_is_sound abc_digest;
-    next_page = omega arith;
-    next_revision = omega arith;
-  };
+  stands = stands;
+  reached = new_world_is_reached abc_digest;
   number = omega arith;
   count_is = refl;
   goes_on = refl;
@@ -83,7 +79,7 @@ module _ (site : Site) (held : List ℕ) (count : ℕ) (left_first left : Option
   pub is_ready : count < ANSWER_LIMIT → IsReady site (tally_of so.past)
   is_ready few = record {
     stands = so.stands;
-    orderly = so.orderly;
+    reached = so.reached;
     few = let number = so.number in omega arith;
   }
 

@@ -14,7 +14,8 @@ use Rattle.wire_model.specs.Transcript.{Told, Follows, HasMoments, closes, after
 use Rattle.pagetree.specs.declared.site.Site.{Site}
 use Rattle.pagetree.specs.declared.status.Status.TheVariants.{Done, Refused, Spent}
 use Rattle.pagetree.specs.Beginning.{ended_by}
-use Rattle.pagetree.specs.Standing.{StandsFor, IsOrderly}
+use Rattle.site_model.specs.Reached.{IsReached}
+use Rattle.pagetree.specs.Standing.{StandsFor}
 use Rattle.pagetree.specs.Exchanging.{WasAnswered}
 use Rattle.pagetree.specs.Ending.{MayGoOn, IsEnd, last_text, Reached, EndsAsTold, EndsAtRead, EndsInAnswer, EndsInRefusal, EndsEarly, EndsUnanswered}
 use Rattle.pagetree.proofs.TranscriptLemmas.{Follows-push, HasMoments-push, text_of-push, closes-push, tally_of-grown}
@@ -31,7 +32,7 @@ pub record SoFar
   pub follows : (more : List ℕ) → Follows start (used ++ (held ++ more)) told past (held ++ more)
   pub left_is : left_first ≡ with_front (used ++ held) left
   pub stands : StandsFor site (tally_of past)
-  pub orderly : IsOrderly (tally_of past)
+  pub reached : IsReached (tally_of past).world
   pub number : (tally_of past).number ≤ count
   pub count_is : length told ≡ count
   pub goes_on : closes told ≡ false
@@ -171,7 +172,7 @@ module _ (start : Past) (site : Site) (held : List ℕ) (count : ℕ) (left_firs
     left_is = so.left_is ∙ (sym (with_front-with_front so.used held left)
         ∙ (ap (with_front so.used) same ∙ with_front-with_front so.used held_later left_later));
     stands = so.stands;
-    orderly = so.orderly;
+    reached = so.reached;
     number = so.number;
     count_is = so.count_is;
     goes_on = so.goes_on;
@@ -255,7 +256,7 @@ module _ (start : Past) (site : Site) (held : List ℕ) (count : ℕ) (left_firs
           (ap (λ xs. so.used ++ xs) (sym (take-append-drop n held))
           ∙ sym (append_assoc so.used (take n held) (drop n held)));
       stands = rw (tally_of-grown so.past (outcome so.past one).added) was.answers.stands;
-      orderly = rw (tally_of-grown so.past (outcome so.past one).added) was.answers.orderly;
+      reached = rw (tally_of-grown so.past (outcome so.past one).added) was.answers.reached;
       number = rw (tally_of-grown so.past (outcome so.past one).added)
           (let a = was.answers.number in let b = so.number in omega arith);
       count_is = count_more;

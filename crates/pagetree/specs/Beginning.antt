@@ -1,7 +1,9 @@
 -- The history that a session starts with, and how it may stop.
 use Rattle.std.specs.Prelude.{◌≡◌, ℕ, true, List, [], ◌∷◌, length, Option}
 use Rattle.outside_world.specs.Sink.{with_back, AppendsPart}
+use Rattle.site_history.specs.History.{Tally}
 use Rattle.site_model.specs.Start.{new_world}
+use Rattle.site_model.specs.World.{World}
 use Rattle.wire_model.specs.declared.answer.Answer.TheVariants.{Head}
 use Rattle.wire_model.specs.Transcript.{answer_text}
 use Rattle.wire_model.specs.Exchange.{Past}
@@ -19,9 +21,13 @@ abc_digest =
     ∷ 0xb0 ∷ 0x03 ∷ 0x61 ∷ 0xa3 ∷ 0x96 ∷ 0x17 ∷ 0x7a ∷ 0x9c ∷ 0xb4 ∷ 0x10 ∷ 0xff ∷ 0x61 ∷ 0xf2 ∷ 0x00 ∷ 0x15 ∷ 0xad
     ∷ []
 
+-- what the history of a new site comes to, whose first user's token has this digest
+abbrev pub new_tally : List ℕ → Tally World
+new_tally digest = record { world = new_world digest; number = 0 }
+
 -- the history without items of a new site, whose first user has the token `abc`
 unfoldable pub start : Past
-start = record { start = record { world = new_world abc_digest; number = 0 }; items = [] }
+start = record { start = new_tally abc_digest; items = [] }
 
 -- the end of a session whose exchange stopped
 abbrev pub stopped_by : Interrupted → Status
@@ -42,7 +48,6 @@ RefusedWith status before after Memory = after ≡ before
 RefusedWith status before after WriteFault = AppendsPart before after (answer_text (Head status) true)
 RefusedWith status before after _ = ⊥
 
--- the site stands for a new world, whatever the digest of its first user's token
+-- the site stands for a new world, whose first user has the token `abc`
 abbrev pub IsNewSite : Site → Type 0
-IsNewSite site =
-    (digest : List ℕ) → StandsFor site (record { world = new_world digest; number = 0 })
+IsNewSite site = StandsFor site (new_tally abc_digest)

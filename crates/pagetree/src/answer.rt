@@ -3,12 +3,12 @@ ghost use Rattle.std.specs.Prelude.{◌≡◌, IfOk, OnErr, ℕ};
 ghost use Rattle.std.specs.Option.{option_copied};
 ghost use Rattle.http_wire.specs.Reading.{request_of};
 ghost use Rattle.site_history.specs.History.{Tally};
+ghost use Rattle.site_model.specs.Laws.{FitsCaller};
 ghost use Rattle.site_model.specs.World.{World};
 ghost use Rattle.site_types.specs.declared.command.Command.{Command as AnyCommand};
 ghost use Rattle.wire_model.specs.Cards.{card_of};
 ghost use Rattle.wire_model.specs.Exchange.{exchange, called_with, card_told};
 ghost use Rattle.wire_model.specs.Exchange as wire;
-ghost use Rattle.wire_model.specs.Laws.{HasSlug};
 ghost use Rattle.pagetree.specs.Standing.{StandsFor, IsReady, Answers};
 
 use crate::site::Site;
@@ -16,7 +16,6 @@ use api_routes::{Answer, Call, RouteFault, Routes};
 use http_wire::Request;
 use site_types::{Moment, NoMemory, PageId, Refusal, UserId};
 use std::alloc::Global;
-use wire_model::KNOWN_TOKEN;
 
 /// Answers a request at a moment. Want of memory changes nothing.
 ///
@@ -31,7 +30,7 @@ pub fn answer_request(
     requires { (tally : Tally World) × IsReady site.old tally }
     ensures ok { (tally : Tally World) → IsReady site.old tally
         → IfOk result (λ answer. Answers tally (exchange tally (request_of request.now) now) answer site.new) }
-    ensures err { (tally : Tally World) → IsReady site.old tally → OnErr result (StandsFor site.new tally) }
+    ensures err { (tally : Tally World) → StandsFor site.old tally → OnErr result (StandsFor site.new tally) }
 {
     match routes.to_call(alloc, request) {
         Ok(call) => answer_call(alloc, site, request.token, call, now),
@@ -61,19 +60,22 @@ fn answer_call(
     now: Moment,
 ) -> Result<Answer, NoMemory>
     requires ready { (tally : Tally World) × IsReady site.old tally }
-    requires slug { (command : AnyCommand) → call ≡ Call.Run command → HasSlug command }
+    requires fits { (command : AnyCommand) → call ≡ Call.Run command → FitsCaller command }
     ensures ok { (tally : Tally World) → IsReady site.old tally
         → IfOk result (λ answer. Answers tally (called_with tally now (option_copied token.entry) call) answer site.new) }
-    ensures err { (tally : Tally World) → IsReady site.old tally → OnErr result (StandsFor site.new tally) }
+    ensures err { (tally : Tally World) → StandsFor site.old tally → OnErr result (StandsFor site.new tally) }
 {
     match call {
-        // No page is live yet.
-        Call::Public(_) => Ok(Answer::NotFound),
-        Call::Page(id) => match user_of(token) {
+        Call::Public(url) => match site.find(url.as_slice()) {
+            None => Ok(Answer::NotFound),
+            // No command makes a page live yet.
+            Some(_) => unreachable!(),
+        },
+        Call::Page(id) => match user_of(site, token) {
             Some(_) => answer_card(alloc, site, id),
             None => Ok(Answer::NoUser),
         },
-        Call::Run(command) => match user_of(token) {
+        Call::Run(command) => match user_of(site, token) {
             Some(user) => site.run(alloc, user, command, now),
             None => Ok(Answer::NoUser),
         },
@@ -91,18 +93,13 @@ fn answer_card(alloc: Global, site: &Site, id: PageId) -> Result<Answer, NoMemor
     }
 }
 
-/// The user with the token, where one is known.
-fn user_of(token: Option<&[u8]>) -> Option<UserId>
-    ensures { result ≡ wire.user_of (option_copied token.entry) }
+/// The user with the token, where there is a token and one has it.
+fn user_of(site: &Site, token: Option<&[u8]>) -> Option<UserId>
+    ensures { (tally : Tally World) → IsReady site.now tally
+        → result ≡ wire.user_of tally.world (option_copied token.entry) }
 {
     match token {
         None => None,
-        Some(token) => {
-            if token == KNOWN_TOKEN {
-                UserId::new(1)
-            } else {
-                None
-            }
-        }
+        Some(token) => site.user_of(token),
     }
 }

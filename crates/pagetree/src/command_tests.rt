@@ -21,7 +21,7 @@ fn asked(alloc: Global, route: &str, body: &str) -> Result<String, AllocError> {
 }
 
 /// The response with a status and a body.
-fn answered(alloc: Global, status: &str, body: &str) -> Result<String, AllocError> {
+pub(crate) fn answered(alloc: Global, status: &str, body: &str) -> Result<String, AllocError> {
     format!(in alloc;
         "HTTP/1.1 {status}\r\nContent-Length: {}\r\nContent-Type: application/json\r\n\r\n{body}",
         body.len()

@@ -11,6 +11,10 @@ mod exchange;
 mod held;
 mod laws;
 mod options;
+#[cfg(test)]
+mod people_rows;
+#[cfg(test)]
+mod people_tests;
 mod run;
 mod session;
 mod site;

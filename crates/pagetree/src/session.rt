@@ -13,9 +13,15 @@ use crate::status::Status;
 use api_routes::{Answer, Routes};
 use http_wire::{Next, RequestReader};
 use outside_world::{Clock, Sink, Source};
-use site_types::NoMemory;
+use site_types::{Digest, NoMemory};
 use std::alloc::Global;
 use wire_model::ANSWER_LIMIT;
+
+/// The SHA-256 digest of the token `abc`, which is user 1's (FIPS 180-4, the first of its examples).
+const ABC_DIGEST: [u8; 32] = [
+    0xba, 0x78, 0x16, 0xbf, 0x8f, 0x01, 0xcf, 0xea, 0x41, 0x41, 0x40, 0xde, 0x5d, 0xae, 0x22, 0x23,
+    0xb0, 0x03, 0x61, 0xa3, 0x96, 0x17, 0x7a, 0x9c, 0xb4, 0x10, 0xff, 0x61, 0xf2, 0x00, 0x15, 0xad,
+];
 
 /// What a session works with: the routes, which are made once, the site in memory, the bytes that
 /// are held, and the reader of requests.
@@ -34,7 +40,7 @@ fn new_server(alloc: Global) -> Result<Server, NoMemory>
     ensures reader { IfOk result (λ server. KnowsNothing server.reader) }
 {
     let routes = Routes::new(alloc)?;
-    let site = Site::new(alloc)?;
+    let site = Site::new(alloc, &Digest::new(ABC_DIGEST))?;
     let held = Held::new(alloc)?;
     let reader = RequestReader::new(alloc)?;
     Ok(Server {
@@ -46,7 +52,7 @@ fn new_server(alloc: Global) -> Result<Server, NoMemory>
 }
 
 /// Answers the requests of the source to the sink, from a new site on, until the input ends, is
-/// refused, asks for closing or was answered 1,000 times.
+/// refused, asks for closing or was answered 1,000,000 times.
 ///
 /// Each response reaches the sink before the next read. Requests that came in one read are answered
 /// one after another. Its cost is that of the bytes: no byte is moved for a request that is taken

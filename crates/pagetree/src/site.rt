@@ -1,17 +1,20 @@
 //! The site that a session serves: what is in memory, and the number of the last entry.
 ghost use Rattle.std.specs.Prelude.{◌≡◌, IfOk, OnErr};
+ghost use Rattle.sha2.specs.Sha256.{sha256};
 ghost use Rattle.site_history.specs.History.{Tally};
+ghost use Rattle.site_model.specs.Laws.{FitsCaller};
+ghost use Rattle.site_model.specs.Rights as rights;
 ghost use Rattle.site_model.specs.World.{World};
-ghost use Rattle.wire_model.specs.Cards.{card_of};
+ghost use Rattle.wire_model.specs.Cards.{card_of, live_page};
 ghost use Rattle.wire_model.specs.Exchange as wire;
 ghost use Rattle.wire_model.specs.Exchange.{run};
-ghost use Rattle.wire_model.specs.Laws.{HasSlug};
-ghost use Rattle.pagetree.specs.Beginning.{IsNewSite};
-ghost use Rattle.pagetree.specs.Standing.{StandsFor, IsReady, Answers};
+ghost use Rattle.pagetree.specs.Beginning.{new_tally};
+ghost use Rattle.pagetree.specs.Standing.{StandsFor, IsReady, Answers, fault_told};
 
+use grants::Fault;
 use public_view::Card;
-use site_core::{Core, Fault};
-use site_types::{Command, Moment, NoMemory, PageId, UserId};
+use site_core::Core;
+use site_types::{Command, Digest, Moment, NoMemory, PageId, UserId};
 use std::alloc::Global;
 use wire_model::Answer;
 
@@ -24,11 +27,12 @@ pub struct Site {
 }
 
 impl Site {
-    /// A new site: the root alone, at the number 0.
-    pub fn new(alloc: Global) -> Result<Site, NoMemory>
-        ensures { IfOk result IsNewSite }
+    /// A new site at the number 0: the root alone, and user 1, a superuser whose token has this
+    /// digest.
+    pub fn new(alloc: Global, digest: &Digest) -> Result<Site, NoMemory>
+        ensures { IfOk result (λ site. StandsFor site (new_tally digest.now)) }
     {
-        let core = Core::new(alloc)?;
+        let core = Core::new(alloc, digest)?;
         Ok(Site { core, number: 0 })
     }
 
@@ -44,21 +48,21 @@ impl Site {
         now: Moment,
     ) -> Result<Answer, NoMemory>
         requires ready { (tally : Tally World) × IsReady self.old tally }
-        requires slug { HasSlug command }
+        requires fits { FitsCaller command }
         ensures ok { (tally : Tally World) → IsReady self.old tally
             → IfOk result (λ answer. Answers tally (run tally user now command) answer self.new) }
-        ensures err { (tally : Tally World) → IsReady self.old tally → OnErr result (StandsFor self.new tally) }
+        ensures err { (tally : Tally World) → StandsFor self.old tally → OnErr result (StandsFor self.new tally) }
     {
         if !is_built(&command) {
             return Ok(Answer::NotBuilt);
         }
-        match self.core.run(alloc, user, command, now) {
-            Ok(reply) => {
+        match self.core.prepare(alloc, &command, user, now) {
+            Ok(plan) => {
+                let reply = self.core.commit(plan);
                 self.number += 1;
                 Ok(Answer::Accepted(self.number, reply))
             }
-            Err(Fault::Refused(refusal)) => Ok(Answer::Refused(refusal)),
-            Err(Fault::Memory) => Err(NoMemory),
+            Err(fault) => refused(fault),
         }
     }
 
@@ -70,6 +74,33 @@ impl Site {
             → IfOk result (λ card. card ≡ card_of tally.world id) }
     {
         self.core.card(alloc, id)
+    }
+
+    /// The live page with this URL, or `None` exactly where there is none.
+    pub fn find(&self, url: &[u8]) -> Option<PageId>
+        ensures { (tally : Tally World) → IsReady self.now tally
+            → result ≡ live_page tally.world url.now }
+    {
+        self.core.find(url)
+    }
+
+    /// The user with this token, or `None` exactly where there is none. It costs the digest of the
+    /// token, and one look-up.
+    pub fn user_of(&self, token: &[u8]) -> Option<UserId>
+        ensures { (tally : Tally World) → IsReady self.now tally
+            → result ≡ rights.user_of (sha256 token.now) tally.world.part.users }
+    {
+        self.core.user_of(token)
+    }
+}
+
+/// What is told of a command that is not carried out.
+fn refused(fault: Fault) -> Result<Answer, NoMemory>
+    ensures { result ≡ fault_told fault }
+{
+    match fault {
+        Fault::Refused(refusal) => Ok(Answer::Refused(refusal)),
+        Fault::Memory => Err(NoMemory),
     }
 }
 
@@ -83,5 +114,9 @@ fn is_built(command: &Command) -> bool
             | Command::Move { .. }
             | Command::Delete { .. }
             | Command::SetSlug { .. }
+            | Command::DefineUser { .. }
+            | Command::DefineGroup
+            | Command::Member { .. }
+            | Command::Grant { .. }
     )
 }

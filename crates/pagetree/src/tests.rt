@@ -272,14 +272,21 @@ fn steps_go_on_in_base_36(rt: HostRuntime) -> Result<(), Fail> {
 }
 
 #[test]
-fn a_session_answers_a_thousand_requests(rt: HostRuntime) -> Result<(), Fail> {
+fn a_session_answers_a_million_requests(rt: HostRuntime) -> Result<(), Fail> {
     let alloc = rt.alloc();
-    let last =
-        b"Connection: close\r\n\r\n{\"entry\":1000,\"id\":1001,\"path\":\"000100RS\",\"url\":\"/c1000/\"}";
-    let mut source = MemorySource::new(creations(alloc, 1001)?, Vec::new(alloc));
+    let count: usize = 1_000_000;
+    let mut input = Vec::new(alloc);
+    for _ in 0..=count {
+        input.extend_from_slice(b"GET / HTTP/1.1\n\n")?;
+    }
+    let mut source = MemorySource::new(input, Vec::new(alloc));
     let mut sink = MemorySink::new(alloc, Vec::new(alloc));
     assert_eq!(rt; run_session(alloc, &mut source, &mut sink)?, Status::Spent);
-    assert!(rt; sink.bytes().ends_with(last));
+    assert!(rt; sink.bytes().ends_with(NOT_FOUND_LAST));
+    assert_eq!(rt;
+        sink.bytes().len(),
+        NOT_FOUND.len() * (count - 1) + NOT_FOUND_LAST.len()
+    );
     Ok(())
 }
 

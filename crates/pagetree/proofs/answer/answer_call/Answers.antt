@@ -1,5 +1,12 @@
--- The slug of a command that was asked for is by the rule.
+-- The command that was asked for fits, and no page is live yet.
+use Rattle.pagetree.proofs.AnswerLemmas.{nothing_live}
 use Rattle.pagetree.proofs.answer.answer_call.Goals as goal
 
-pub run-requires-clause-slug : goal.run-requires-clause-slug
-run-requires-clause-slug c = c.requires.slug c.in-Run.command c.in-Run.is
+pub run-requires-clause-fits : goal.run-requires-clause-fits
+run-requires-clause-fits c = c.requires.fits c.in-Run.command c.in-Run.is
+
+pub unreachable-requires : goal.unreachable-requires
+unreachable-requires c =
+    let tally = c.requires.ready.0 in
+    let ready = c.requires.ready.1 in
+    nothing_live c.args.site.now tally _ _ ready (c.in-Some.ensures tally ready)

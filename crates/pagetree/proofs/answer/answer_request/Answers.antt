@@ -5,8 +5,8 @@ use Rattle.wire_model.proofs.SlugLemmas.{routes_give_slugs}
 use Rattle.pagetree.proofs.AnswerLemmas.{exchange_called, answers_fault}
 use Rattle.pagetree.proofs.answer.answer_request.Goals as goal
 
-pub answer_call-requires-clause-slug : goal.answer_call-requires-clause-slug
-answer_call-requires-clause-slug c = λ command is.
+pub answer_call-requires-clause-fits : goal.answer_call-requires-clause-fits
+answer_call-requires-clause-fits c = λ command is.
     routes_give_slugs (request_of c.args.request.now) command (c.in-Ok.ensures.ok ∙ ap Ok is)
 
 pub returns-in-Ok-clause-ok : goal.returns-in-Ok-clause-ok

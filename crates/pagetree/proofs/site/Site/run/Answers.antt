@@ -1,21 +1,25 @@
--- What is in memory accepts the command, or refuses it as the step does.
-use Rattle.std.proofs.Common.{sym, ap, ◌+◌, ◌∙◌}
-use Rattle.pagetree.proofs.SiteLemmas.{core_ready, ready_fits, ids_left, answers_accepted, answers_refused}
+-- What is in memory has a plan for the command, or refuses it as the step does.
+use Rattle.std.proofs.Common.{◌≡◌, ◌+◌, Result, Ok, Err, IfOk, sym, ap, ◌∙◌, subst}
+use Rattle.site_model.specs.World.{World}
+use Rattle.site_history.specs.History.{Tally}
+use Rattle.pagetree.proofs.SiteLemmas.{core_ready, answers_accepted, answers_fault_told}
 use Rattle.pagetree.proofs.site.Site.run.Goals as goal
 
 pub returns-in-Ok-clause-ok : goal.returns-in-Ok-clause-ok
 returns-in-Ok-clause-ok c = λ tally ready.
     let built = sym c.is_built.ensures ∙ c.if-not-is_built.false in
-    let made = c.in-Ok.ensures tally.world.part (core_ready c.args.self.now tally ready)
-    (ready_fits c.args.self.now tally c.args.command ready c.requires.slug) in
-    answers_accepted tally c.args.user c.args.now c.args.command _ c.in-Ok.reply built ready.orderly
-    c.requires.slug (ids_left c.args.self.now tally ready) made
-    (ap (λ n. n + 1) ready.stands.number)
+    let made = c.in-Ok.ensures.plan tally.world (core_ready c.args.self.now tally ready) c.requires.fits
+    in
+    let stands = c.commit-reply.ensures.stands tally.world c.args.now c.args.user c.args.command made in
+    answers_accepted tally c.args.user c.args.now c.args.command made.after _ built
+    (made.step ∙ ap (λ r. Ok (made.after, r)) (sym (c.commit-reply.ensures.told ∙ made.reply_is)))
+    _ ready.reached c.requires.fits stands (ap (λ n. n + 1) ready.stands.number)
 
-pub returns-in-Err-Refused-clause-ok : goal.returns-in-Err-Refused-clause-ok
-returns-in-Err-Refused-clause-ok c = λ tally ready.
+pub returns-clause-ok : goal.returns-clause-ok
+returns-clause-ok c = λ tally ready.
     let built = sym c.is_built.ensures ∙ c.if-not-is_built.false in
-    let made = c.in-Err-Refused.ensures tally.world.part (core_ready c.args.self.now tally ready)
-    (ready_fits c.args.self.now tally c.args.command ready c.requires.slug) in
-    answers_refused tally c.args.user c.args.now c.args.command _ _ c.in-Err-Refused.refusal built
-    ready.orderly c.in-Err-Refused.field-0-is made ready.stands.number
+    let made = c.in-Err.ensures.plan tally.world (core_ready c.args.self.now tally ready) c.requires.fits
+    in
+    rw c.refused.ensures
+    (answers_fault_told tally c.args.user c.args.now c.args.command c.args.self.now
+    c.prepare.new.self c.in-Err.fault built ready made c.in-Err.ensures.same)

@@ -7,9 +7,11 @@ use Rattle.http_model.specs.declared.method.Allow.TheVariants as allows
 use Rattle.serde_json.specs.Data.{Data, unsigned, number, string, array, object, no_items, no_members, member}
 use Rattle.site_types.specs.declared.command.Command.TheVariants.{Create, Move, Delete, SetSlug}
 use Rattle.site_types.specs.declared.position.Position.TheVariants.{FirstChild, LastChild, FirstSibling, Left, Right, LastSibling}
-use Rattle.wire_model.specs.Forms.{position_of, creation_in, move_in, deletion_in, slug_change_in}
-use Rattle.wire_model.specs.Routes.{route_of, command, card_named, unbuilt, nowhere, public_page, id_written, closed_path, call_of}
+use Rattle.wire_model.specs.Forms.{position_of, creation_in, move_in, page_command_in, slug_change_in}
+use Rattle.wire_model.specs.Routes.{route_of, command, read_named, unbuilt, nowhere, public_page, id_written, closed_path, call_of}
 use Rattle.wire_model.specs.declared.form.CommandForm.TheVariants as forms
+use Rattle.wire_model.specs.declared.form.PageVerb.TheVariants as verbs
+use Rattle.wire_model.specs.declared.form.ReadForm.TheVariants.{Card}
 use Rattle.wire_model.specs.declared.call.Call.TheVariants.{Page, Public}
 use Rattle.wire_model.specs.declared.call.RouteFault.TheVariants.{NotFound, NotBuilt, Method as WrongMethod, Form}
 
@@ -24,7 +26,7 @@ unfolding route_of
 move_moves = refl
 
 -- the route of deletions
-delete_deletes : route_of (codes "/api/delete") ≡ command forms.Delete
+delete_deletes : route_of (codes "/api/delete") ≡ command (forms.OnPage verbs.Delete)
 unfolding route_of
 delete_deletes = refl
 
@@ -33,13 +35,13 @@ slug_sets_slugs : route_of (codes "/api/slug") ≡ command forms.SetSlug
 unfolding route_of
 slug_sets_slugs = refl
 
--- nothing stands behind the name of a form's route
-behind_a_name : route_of (codes "/api/move/") ≡ nowhere
+-- nothing follows the path of a form's route
+after_a_name : route_of (codes "/api/move/") ≡ nowhere
 unfolding route_of
-behind_a_name = refl
+after_a_name = refl
 
--- a part behind `/api/pages/` is a card's, whatever it is
-a_part_is_a_card : route_of (codes "/api/pages/x") ≡ card_named (codes "x")
+-- a part after `/api/pages/` is a card's, whatever it is
+a_part_is_a_card : route_of (codes "/api/pages/x") ≡ read_named Card (codes "x")
 unfolding route_of
 a_part_is_a_card = refl
 
@@ -134,7 +136,7 @@ no_slug = refl
 first_child : position_of (string (codes "first-child")) ≡ Some FirstChild
 first_child = refl
 
--- behind the kids
+-- after the kids
 last_child : position_of (string (codes "last-child")) ≡ Some LastChild
 last_child = refl
 
@@ -146,11 +148,11 @@ first_sibling = refl
 left : position_of (string (codes "left")) ≡ Some Left
 left = refl
 
--- behind the target
+-- after the target
 right : position_of (string (codes "right")) ≡ Some Right
 right = refl
 
--- behind the siblings
+-- after the siblings
 last_sibling : position_of (string (codes "last-sibling")) ≡ Some LastSibling
 last_sibling = refl
 
@@ -183,15 +185,15 @@ abbrev page_object : Data → Data
 page_object id = object (member (codes "page") id no_members)
 
 -- page 3 is deleted
-a_deletion : deletion_in (page_object (number (unsigned 3))) ≡ Some (Delete 3)
+a_deletion : page_command_in verbs.Delete (page_object (number (unsigned 3))) ≡ Some (Delete 3)
 a_deletion = refl
 
 -- no page has the id 0
-no_deletion : deletion_in (page_object (number (unsigned 0))) ≡ None
+no_deletion : page_command_in verbs.Delete (page_object (number (unsigned 0))) ≡ None
 no_deletion = refl
 
 -- a member too many
-one_too_many : deletion_in (move_object (string (codes "left"))) ≡ None
+one_too_many : page_command_in verbs.Delete (move_object (string (codes "left"))) ≡ None
 one_too_many = refl
 
 -- {"page":3,"slug":..} with this slug

@@ -55,7 +55,7 @@ last-decides (b ∷ c ∷ path) some =
     let next : length (b ∷ c ∷ path) - 1 ≡ suc (length (c ∷ path) - 1) = omega arith in
     ap (λ k. get_or (b ∷ c ∷ path) k 0 == 47) next ∙ last-decides (c ∷ path) (omega arith)
 
--- where there is no JSON, no command is asked for
+-- if there is no JSON, no command is asked for
 pub fault-read : (fault : ContentFault) (form : CommandForm) (body : List ℕ) →
     (fault ≡ Bad → data_of body ≡ None) →
     Reads {A = Command} (Err fault) (command_asked form body)
@@ -76,7 +76,7 @@ pub answers-ok : (result asked : Result Call RouteFault) → Answers result aske
 answers-ok (Ok call) asked answers = answers
 answers-ok (Err fault) asked answers = tt
 
--- the answer is the fault, where it is not want of memory
+-- the answer is the fault, if it is not that memory ran out
 pub answers-err : (result asked : Result Call RouteFault) → Answers result asked →
     IfErr result (λ fault. (fault ≢ RouteFault.Memory) → asked ≡ Err fault)
 answers-err (Ok call) asked answers = tt
@@ -86,7 +86,7 @@ answers-err (Err (RouteFault.Method allow)) asked answers = λ _. answers
 answers-err (Err RouteFault.Form) asked answers = λ _. answers
 answers-err (Err RouteFault.Memory) asked answers = λ other. absurd (other refl)
 
--- where the answer is want of memory, it may come
+-- if the answer is that memory ran out, it may
 pub answers-memory : (result asked : Result Call RouteFault) → Answers result asked →
     IsErrOf result RouteFault.Memory → MayWant asked
 answers-memory result asked answers is = by result answers is

@@ -24,7 +24,7 @@ a_byte = refl
 upper_case : hex_bytes (codes "1F") ≡ None
 upper_case = refl
 
--- nor is a letter behind `f`
+-- nor is a letter after `f`
 a_letter_too_far : hex_bytes (codes "1g") ≡ None
 a_letter_too_far = refl
 

@@ -1,7 +1,7 @@
 mod Taking
 mod TakeLemmas
 mod PatternLemmas
-mod Leading
+mod PlacedLemmas
 mod RouteLemmas
 mod CallLemmas
 pub mod FloatLemmas

@@ -1,18 +1,20 @@
--- The two kinds of patterns: a text, and a text with one part behind it.
-use Rattle.std.proofs.Common.{◌≡◌, ℕ, zero, suc, List, [], ◌∷◌, ◌++◌, length, take, drop, Some, None, Bool, true, false, ◌==◌, ◌&&◌, ◌||◌, not, cond, refl, sym, ap, ◌∙◌, subst, arith, nat_eq, ltb}
-use Rattle.std.specs.Prelude.{bytes_eq, if◌then◌else◌}
-use Rattle.std.specs.Bool.{then_some}
-use Rattle.std.specs.List.{list_all, list_any}
+-- The two kinds of patterns: a text, and a text with one part after it.
+use Rattle.std.proofs.Common.{◌≡◌, ℕ, zero, suc, ◌≤◌, List, [], ◌∷◌, ◌++◌, length, take, drop, Bool, true, false, ◌==◌, ◌&&◌, ◌||◌, not, cond, refl, sym, ap, ◌∙◌, subst, arith, nat_eq, ltb}
+use Rattle.std.specs.Prelude.{bytes_eq}
+use Rattle.std.specs.List.{list_all}
 use Rattle.std.specs.Str.{IsUtf8, IsAscii}
 use Rattle.std.proofs.lemmas.Bool.Decides.{nat_tests}
 use Rattle.std.proofs.lemmas.Slice.Eq.{bytes_eq-Decides}
 use Rattle.std.proofs.lemmas.Str.{IsUtf8-from_ascii}
-use Rattle.std.proofs.lemmas.List.{take-append-drop}
-use Rattle.matchit.specs.Rows.{RowsOf, param_token}
-use Rattle.matchit.specs.Seek.{has_slash, same_text}
-use Rattle.wire_model.specs.Forms.{named}
-use Rattle.wire_model.specs.Routes.{is_part, begins_with, part_behind, has_part_behind}
-use Rattle.api_routes.proofs.Taking.{takes, is_literal, NoneTakes, has_pattern}
+use Rattle.std.proofs.lemmas.List.{take-append-drop, length-append}
+use Rattle.matchit.specs.Rows.{param_token}
+use Rattle.matchit.specs.Seek.{has_slash}
+use Rattle.wire_model.specs.Routes.{is_part, begins_with, has_part_after}
+use Rattle.api_routes.proofs.Taking.{takes, is_literal, IsSimple}
+
+-- the pattern of one part after a front
+abbrev pub part_pattern : List ℕ → List ℕ
+part_pattern front = front ++ param_token ∷ []
 
 -- equal bytes are the same
 pub same-bytes : (xs ys : List ℕ) → bytes_eq xs ys ≡ true → xs ≡ ys
@@ -46,9 +48,9 @@ no-slash (b ∷ path) = by (b == 47) (no-slash path)
     by true others = refl
     by false others = others
 
--- a text and a parameter take a path that has the text at its front and one part behind it
+-- a text and a parameter take a path that has the text at its front and one part after it
 pub takes-front : (front path : List ℕ) → is_literal front ≡ true →
-    takes (front ++ param_token ∷ []) path ≡ has_part_behind front path
+    takes (part_pattern front) path ≡ has_part_after front path
 takes-front [] [] e = refl
 takes-front [] (b ∷ []) e = rw (no-slash (b ∷ [])) (by (param_token == b) refl)
   where
@@ -80,33 +82,8 @@ takes-front (x ∷ front) (b ∷ path) e =
     by true false w = refl
     by false v w = refl
 
--- a path that has a part behind a front has that part there
-pub part-found : (front path : List ℕ) → has_part_behind front path ≡ true →
-    part_behind front path ≡ Some (drop (length front) path)
-part-found front path e =
-    by (begins_with front path) (is_part (drop (length front) path)) e
-  where
-    by : (v w : Bool) → (v && w) ≡ true →
-        (if v then then_some w (drop (length front) path) else None)
-        ≡ Some (drop (length front) path)
-    by true true same = refl
-    by true false same = absurd (cc)
-    by false w same = absurd (cc)
-
--- a path that has none there has no part behind the front
-pub part-missing : (front path : List ℕ) → has_part_behind front path ≡ false →
-    part_behind front path ≡ None
-part-missing front path e =
-    by (begins_with front path) (is_part (drop (length front) path)) e
-  where
-    by : (v w : Bool) → (v && w) ≡ false →
-        (if v then then_some w (drop (length front) path) else None) ≡ None
-    by true true same = absurd (cc)
-    by true false same = refl
-    by false w same = refl
-
--- a path that has a part behind a front is the front and what is behind it
-pub front-joined : (front path : List ℕ) → has_part_behind front path ≡ true →
+-- a path that has a part after a front is the front and that part
+pub front-joined : (front path : List ℕ) → has_part_after front path ≡ true →
     path ≡ front ++ drop (length front) path
 front-joined front path e =
     let begins : bytes_eq (take (length front) path) front ≡ true = grind arith in
@@ -115,45 +92,43 @@ front-joined front path e =
     sym (take-append-drop (length front) path)
     ∙ ap (λ xs. xs ++ drop (length front) path) same
 
--- a pattern of rows that take nothing does not take the path
-pub pattern-missing : {K : Type 0} (p path : List ℕ) (rs : RowsOf K) → has_pattern p rs ≡ true →
-    NoneTakes path rs → takes p path ≡ false
-pattern-missing p path [] e none = absurd (cc)
-pattern-missing p path ((t, k) ∷ rest) e none =
-    by (same_text t p) refl (λ later. pattern-missing p path rest later none.1) e
-  where
-    not_taken : (v : Bool) → takes t path ≡ v → v ≡ false
-    not_taken true taken = absurd (none.0 taken)
-    not_taken false taken = refl
+-- a literal pattern is simple
+pub literal-simple : (t : List ℕ) → is_literal t ≡ true → IsSimple t
+literal-simple [] e = tt
+literal-simple (x ∷ t) e =
+    let below : ltb x param_token ≡ true = grind arith in
+    let others : is_literal t ≡ true = grind arith in (
+      (λ same. grind (arith, nat_tests)),
+      (λ token. absurd (grind (arith, nat_tests))),
+      literal-simple t others,
+    )
 
-    by : (v : Bool) → same_text t p ≡ v → (has_pattern p rest ≡ true → takes p path ≡ false) →
-        (v || has_pattern p rest) ≡ true → takes p path ≡ false
-    by true same others found =
-        let none_takes = not_taken (takes t path) refl in
-        subst (λ (q : List ℕ). takes q path ≡ false) (same-bytes t p same) none_takes
-    by false same others found = others found
+-- so is one with a parameter at its end
+pub front-simple : (t : List ℕ) → is_literal t ≡ true → IsSimple (part_pattern t)
+front-simple [] e = ((λ same. grind (arith, nat_tests)), (λ token. refl), tt)
+front-simple (x ∷ t) e =
+    let below : ltb x param_token ≡ true = grind arith in
+    let others : is_literal t ≡ true = grind arith in (
+      (λ same. grind (arith, nat_tests)),
+      (λ token. absurd (grind (arith, nat_tests))),
+      front-simple t others,
+    )
 
--- a path that is no text of a list which a test rules out is none of its texts
-pub none-of : (front path : List ℕ) (check : List ℕ → Bool) (names : List (List ℕ)) →
-    ((p : List ℕ) → check p ≡ true → bytes_eq path p ≡ false) →
-    list_all (λ name. check (front ++ name)) names ≡ true →
-    list_any (λ name. bytes_eq path (front ++ name)) names ≡ false
-none-of front path check [] rules_out e = refl
-none-of front path check (name ∷ names) rules_out e =
-    let first_one : check (front ++ name) ≡ true = grind arith in
-    let others : list_all (λ name. check (front ++ name)) names ≡ true = grind arith in
-    rw (rules_out (front ++ name) first_one) (none-of front path check names rules_out others)
+-- a front with a part after it is no longer than the path
+pub front-fits : (front path : List ℕ) → has_part_after front path ≡ true →
+    length front ≤ length path
+front-fits front path e =
+    omega (
+      arith,
+      ap length (front-joined front path e),
+      length-append front (drop (length front)
+          path),
+    )
 
--- a path that is no name of a list which a test rules out names none of its values
-pub none-named : {A : Type 0} (name_of : A → List ℕ) (path : List ℕ) (check : List ℕ → Bool)
-    (values : List A) →
-    ((p : List ℕ) → check p ≡ true → bytes_eq path p ≡ false) →
-    list_all (λ a. check (name_of a)) values ≡ true → named name_of values path ≡ None
-none-named name_of path check [] rules_out e = refl
-none-named name_of path check (a ∷ values) rules_out e =
-    let first_one : check (name_of a) ≡ true = grind arith in
-    let others : list_all (λ a. check (name_of a)) values ≡ true = grind arith in
-    rw (rules_out (name_of a) first_one) (none-named name_of path check values rules_out others)
+-- what stands after the front is a part
+pub part-after : (front path : List ℕ) → has_part_after front path ≡ true →
+    is_part (drop (length front) path) ≡ true
+part-after front path e = grind arith
 
 -- whether each byte is ASCII
 abbrev pub all_ascii : List ℕ → Bool

@@ -45,7 +45,7 @@ a_taken_slug_is_told : compact_text (refusal_data (SlugTaken 2)) ≡
 unfolding digits serde_json_on_literals
 a_taken_slug_is_told = refl
 
--- nothing new is told
+-- nothing new
 nothing_new_is_told : compact_text (refusal_data NothingNew) ≡
     codes "{\"name\":\"NothingNew\",\"refused\":15}"
 unfolding digits serde_json_on_literals
@@ -111,7 +111,7 @@ another_is_409 : (response_of (Refused NothingNew)).status ≡ statuses.Conflict
 unfolding response_of
 another_is_409 = refl
 
--- the method that a route takes is told at 405
+-- a 405 names the method that the route takes
 the_method_is_told : (response_of (Method allows.Post)).allow ≡ Some allows.Post
 unfolding response_of
 the_method_is_told = refl
@@ -121,7 +121,7 @@ too_large_is_told : (response_of (Head 413)).body ≡ codes "{\"error\":\"TooLar
 unfolding response_of serde_json_on_literals
 too_large_is_told = refl
 
--- no head is told
+-- a front that is no head
 no_head_is_told : (response_of (Head 400)).body ≡ codes "{\"error\":\"Head\"}"
 unfolding response_of serde_json_on_literals
 no_head_is_told = refl

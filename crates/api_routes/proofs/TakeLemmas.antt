@@ -1,4 +1,4 @@
--- What a router with simple patterns finds: a route that takes the path, where there is one.
+-- What a router with simple patterns finds: a route that takes the path, if there is one.
 use Rattle.std.proofs.Common.{◌≡◌, ◌≢◌, ℕ, zero, suc, ◌-◌, List, [], ◌∷◌, length, Option, Some, None, MatchOption, Bool, true, false, ◌==◌, ◌&&◌, ◌||◌, not, cond, refl, ap, ◌∙◌, arith}
 use Rattle.std.proofs.lemmas.Bool.Decides.{nat_tests}
 use Rattle.matchit.specs.Rows.{RowsOf, param_token, catch_all_token}
@@ -161,7 +161,7 @@ slash-taken path ((x ∷ t, k) ∷ rest) e =
     by true = refl
     by false = refl
 
--- the route behind a parameter leads there, and where there is none no row takes a path so
+-- the route after a parameter leads there, and if there is none, no row takes a path so
 pub parameter-found : {K : Type 0} (P : K → Type 0) (b : ℕ) (path : List ℕ) (rs : RowsOf K) →
     AllSimple rs → AllLead P (b ∷ path) rs → has_slash (b ∷ path) ≡ false →
     MatchOption (own (step param_token rs)) (NoParameterTakes (b ∷ path) rs) P

@@ -58,7 +58,7 @@ module _ {K : Type 0} where
   NoParameterTakes path ((x ∷ t, k) ∷ rest) =
       (((x == param_token) && not (has_slash path)) ≡ false) × NoParameterTakes path rest
 
-  -- what a parameter takes of a path where rows end behind it, by whether the path has a slash
+  -- what a parameter takes of a path if rows end after it, by whether the path has a slash
   abbrev pub end_step : Bool → List ℕ → RowsOf K → ℕ × RowsOf K
   end_step slash_left path rs = cond slash_left (0, []) (length path, rs)
 

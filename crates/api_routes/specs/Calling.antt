@@ -10,8 +10,8 @@ use Rattle.wire_model.specs.declared.call.Call.TheVariants.{Run, Page, Public}
 use Rattle.wire_model.specs.declared.call.RouteFault.{RouteFault}
 use Rattle.wire_model.specs.declared.call.RouteFault.TheVariants.{NotFound, NotBuilt, Method, Form, Memory}
 
--- where want of memory may come in the place of what is asked: only where the route and the method
--- are right, for a command, a public page, or what is not of the form
+-- what may run out of memory: only a request with the right route and method, for a command, a
+-- public page, or what is not of the form
 abbrev pub MayWant : Result Call RouteFault → Type 0
 MayWant (Ok (Run command)) = Unit {0}
 MayWant (Ok (Page page)) = ⊥
@@ -22,7 +22,7 @@ MayWant (Err (Method allow)) = ⊥
 MayWant (Err Form) = Unit {0}
 MayWant (Err Memory) = ⊥
 
--- the answer is the call that is asked for, or why none is; want of memory says little
+-- the answer is the call that is asked for, or why none is; running out of memory says little
 abbrev pub Answers : Result Call RouteFault → Result Call RouteFault → Type 0
 Answers (Ok call) asked = asked ≡ Ok call
 Answers (Err NotFound) asked = asked ≡ Err NotFound
@@ -31,7 +31,7 @@ Answers (Err (Method allow)) asked = asked ≡ Err (Method allow)
 Answers (Err Form) asked = asked ≡ Err Form
 Answers (Err Memory) asked = MayWant asked
 
--- the number that a text of digits writes, or one above the last id where it is greater
+-- the number that a text of digits writes, or one above the last id if it is greater
 abbrev pub capped_number : List ℕ → Option ℕ
 capped_number text =
     then_some (list_all is_ascii_digit text) (min (digits_value 10 text) (LAST_PAGE_ID + 1))

@@ -11,8 +11,8 @@ use site_types::Command;
 use std::alloc::Global;
 use wire_model::CommandForm;
 
-/// The command of a form that a body asks for: an object of exactly the members that the form states.
-/// Where a name comes twice the last member counts.
+/// The command of a form that a body asks for: an object of exactly the members that the form
+/// states. Where a name comes twice the last member counts.
 pub fn read_command(alloc: Global, form: CommandForm, body: &[u8]) -> Result<Command, ContentFault>
     ensures { Reads result (command_asked form body.now) }
 {
@@ -42,7 +42,7 @@ fn read_body(alloc: Global, body: &[u8]) -> Result<Value, ContentFault>
     }
 }
 
-/// The text, or an empty object where it has no bytes.
+/// The text, or an empty object if it has no bytes.
 fn or_empty_object(text: &str) -> &str
     ensures { result.now ≡ text_of_body text.now }
 {

@@ -1,7 +1,7 @@
 //! The call that a request asks for.
 ghost use Rattle.std.specs.Prelude.{◌≡◌, ◌≢◌, Ok, Err, IfOk, IfErr, IsErrOf};
 ghost use Rattle.http_wire.specs.Reading.{request_of};
-ghost use Rattle.wire_model.specs.Routes.{call_of, call_on, command, card_named, public_page};
+ghost use Rattle.wire_model.specs.Routes.{call_of, call_on, command, read_named, read_call, public_page};
 ghost use Rattle.api_routes.specs.Calling.{Answers, MayWant};
 
 use crate::body::read_command;
@@ -10,19 +10,18 @@ use crate::path::{Route, closed_path};
 use crate::router::Routes;
 use block_content::ContentFault;
 use http_wire::{Allow, Method, Request};
+use site_types::PageId;
 use std::alloc::Global;
-use wire_model::{Call, CommandForm, RouteFault};
+use wire_model::{Call, CommandForm, ReadForm, RouteFault};
 
-/// What a request asks for, as `Routes::to_call` on a fresh router says. To ask for many, make the
+/// What a request asks for, by `Routes::to_call` on a fresh router. To ask for many, make the
 /// router once.
 pub fn to_call(alloc: Global, request: &Request<'_>) -> Result<Call, RouteFault>
     ensures ok { IfOk result (λ call. call_of (request_of request.now) ≡ Ok call) }
     ensures err { IfErr result (λ fault. (fault ≢ RouteFault.Memory)
         → call_of (request_of request.now) ≡ Err fault) }
 {
-    let Ok(routes) = Routes::new(alloc) else {
-        return Err(RouteFault::Memory);
-    };
+    let routes = Routes::new(alloc)?;
     routes.to_call(alloc, request)
 }
 
@@ -30,8 +29,8 @@ impl Routes {
     /// What a request asks for, or why it asks nothing: its route is tried first (404, and 501 for
     /// what is not built yet), then its method (405), and then its form (400).
     ///
-    /// One look-up of the path, and one pass over the body of a command. Memory is taken for the body
-    /// of a command and for the path of a public page alone, and so only these can want it.
+    /// One look-up of the path, and one pass over the body of a command. Only the body of a
+    /// command and the path of a public page take memory, and so only they can run out of it.
     pub fn to_call(&self, alloc: Global, request: &Request<'_>) -> Result<Call, RouteFault>
         ensures ok { IfOk result (λ call. call_of (request_of request.now) ≡ Ok call) }
         ensures err { IfErr result (λ fault. (fault ≢ RouteFault.Memory)
@@ -48,7 +47,7 @@ impl Routes {
     {
         match self.route(request.path) {
             Route::Command(form) => command_call(alloc, request, form),
-            Route::Card(text) => card_call(request, text),
+            Route::Read(form, text) => read_call(request, form, text),
             Route::Unbuilt => Err(RouteFault::NotBuilt),
             Route::Nowhere => Err(RouteFault::NotFound),
             Route::Public => public_call(alloc, request),
@@ -70,16 +69,25 @@ fn command_call(alloc: Global, request: &Request<'_>, form: CommandForm) -> Resu
     }
 }
 
-/// What a request to the card of the page that this text names asks for.
-fn card_call(request: &Request<'_>, text: &[u8]) -> Result<Call, RouteFault>
-    ensures { Answers result (call_on (card_named text.now) (request_of request.now)) }
+/// What a request to read a form of the page that this text names asks for.
+fn read_call(request: &Request<'_>, form: ReadForm, text: &[u8]) -> Result<Call, RouteFault>
+    ensures { Answers result (call_on (read_named form text.now) (request_of request.now)) }
 {
     let Method::Get = request.method else {
         return Err(RouteFault::Method(Allow::Get));
     };
     match written_id(text) {
-        Some(page) => Ok(Call::Page(page)),
+        Some(page) => Ok(read_of(form, page)),
         None => Err(RouteFault::Form),
+    }
+}
+
+/// The call that reads a form of a page.
+fn read_of(form: ReadForm, page: PageId) -> Call
+    ensures { result ≡ read_call form page }
+{
+    match form {
+        ReadForm::Card => Call::Page(page),
     }
 }
 
@@ -90,8 +98,6 @@ fn public_call(alloc: Global, request: &Request<'_>) -> Result<Call, RouteFault>
     let Method::Get = request.method else {
         return Err(RouteFault::Method(Allow::Get));
     };
-    match closed_path(alloc, request.path) {
-        Ok(url) => Ok(Call::Public(url)),
-        Err(_) => Err(RouteFault::Memory),
-    }
+    let url = closed_path(alloc, request.path)?;
+    Ok(Call::Public(url))
 }

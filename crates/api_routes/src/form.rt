@@ -2,7 +2,7 @@
 ghost use Rattle.std.specs.Prelude.{◌≡◌};
 ghost use Rattle.serde_json.specs.View.{view};
 ghost use Rattle.block_content.specs.Reads.{Reads};
-ghost use Rattle.wire_model.specs.Forms.{command_in, creation_in, move_in, deletion_in, slug_change_in, user_definition_in, group_definition_in, membership_in, grant_in};
+ghost use Rattle.wire_model.specs.Forms.{command_in, creation_in, move_in, slug_change_in, page_command_in, command_on, user_definition_in, group_definition_in, membership_in, grant_in};
 
 use crate::member::{
     content_at, digest_at, group_at, id_at, permission_at, position_at, slug_at, truth_at, user_at,
@@ -10,9 +10,9 @@ use crate::member::{
 use block_content::ContentFault;
 use block_content::members::has_exactly;
 use serde_json::Value;
-use site_types::Command;
+use site_types::{Command, PageId};
 use std::alloc::Global;
-use wire_model::CommandForm;
+use wire_model::{CommandForm, PageVerb};
 
 /// The command of a form that a value asks for. Only a creation takes memory.
 pub(crate) fn command_in(
@@ -25,8 +25,8 @@ pub(crate) fn command_in(
     match form {
         CommandForm::Create => creation_in(alloc, value),
         CommandForm::Move => or_bad(move_in(value)),
-        CommandForm::Delete => or_bad(deletion_in(value)),
         CommandForm::SetSlug => or_bad(slug_change_in(value)),
+        CommandForm::OnPage(verb) => or_bad(page_command_in(verb, value)),
         CommandForm::DefineUser => or_bad(user_definition_in(value)),
         CommandForm::DefineGroup => or_bad(group_definition_in(value)),
         CommandForm::Member => or_bad(membership_in(value)),
@@ -34,7 +34,7 @@ pub(crate) fn command_in(
     }
 }
 
-/// A command where there is one, and else that the value is not of the form.
+/// A command if there is one, and otherwise that the value is not of the form.
 fn or_bad(command: Option<Command>) -> Result<Command, ContentFault>
     ensures { Reads result command }
 {
@@ -82,17 +82,6 @@ fn move_in(value: &Value) -> Option<Command>
     })
 }
 
-/// The deletion that a value asks for.
-fn deletion_in(value: &Value) -> Option<Command>
-    ensures { result ≡ deletion_in (view value.now) }
-{
-    if !has_exactly(value, &["page"]) {
-        return None;
-    }
-    let page = id_at(value, "page")?;
-    Some(Command::Delete { page })
-}
-
 /// The change of a slug that a value asks for.
 fn slug_change_in(value: &Value) -> Option<Command>
     ensures { result ≡ slug_change_in (view value.now) }
@@ -103,6 +92,39 @@ fn slug_change_in(value: &Value) -> Option<Command>
     let page = id_at(value, "page")?;
     let slug = slug_at(value)?;
     Some(Command::SetSlug { page, slug })
+}
+
+/// The command of a verb on the page that a value names.
+fn page_command_in(verb: PageVerb, value: &Value) -> Option<Command>
+    ensures { result ≡ page_command_in verb (view value.now) }
+{
+    if !has_exactly(value, &["page"]) {
+        return None;
+    }
+    let page = id_at(value, "page")?;
+    Some(command_on(verb, page))
+}
+
+/// The command of a verb on a page.
+fn command_on(verb: PageVerb, page: PageId) -> Command
+    ensures { result ≡ command_on verb page }
+{
+    match verb {
+        PageVerb::Delete => Command::Delete { page },
+        PageVerb::Detach => Command::Detach { page },
+        PageVerb::OpenDesk => Command::OpenDesk { page },
+        PageVerb::ShutDesk => Command::ShutDesk { page },
+        PageVerb::Publish => Command::Publish { page },
+        PageVerb::Unpublish => Command::Unpublish { page },
+        PageVerb::Unschedule => Command::Unschedule { page },
+        PageVerb::Lock => Command::Lock { page },
+        PageVerb::Unlock => Command::Unlock { page },
+        PageVerb::Purge => Command::Purge { page },
+        PageVerb::Submit => Command::Submit { page },
+        PageVerb::Approve => Command::Approve { page },
+        PageVerb::Reject => Command::Reject { page },
+        PageVerb::Cancel => Command::Cancel { page },
+    }
 }
 
 /// The definition of a user that a value asks for.

@@ -7,9 +7,7 @@ ghost use Rattle.wire_model.specs.Routes.{id_written};
 ghost use Rattle.api_routes.specs.Calling.{capped_number};
 
 use site_types::{LAST_PAGE_ID, PageId};
-
-/// The most digits that an id has.
-const MAX_ID_DIGITS: usize = 7;
+use wire_model::MAX_ID_DIGITS;
 
 /// The page's id that a text writes with 1 to 7 digits, leading zeros among them: 1 to 1,000,000.
 pub fn written_id(text: &[u8]) -> Option<PageId>
@@ -24,8 +22,8 @@ pub fn written_id(text: &[u8]) -> Option<PageId>
     PageId::new(written_number(text)?)
 }
 
-/// The number that digits write, and one above the last id where it is greater: what is too large
-/// stays so.
+/// The number that digits write, and one above the last id if it is greater: a number that is too
+/// large stays so.
 fn written_number(text: &[u8]) -> Option<u32>
     ensures { result ≡ capped_number text.now }
 {

@@ -1,9 +1,7 @@
-//! The routes of the API: from a request of HTTP/1.1 to what it asks of the site, and from an answer
-//! to its response, with bodies of JSON (RFC 8259).
+//! The routes of the API: from a request of HTTP/1.1 to what it asks of the site, and from an
+//! answer to its response, with bodies of JSON (RFC 8259).
 #![tactic(auto)]
 
-#[cfg(test)]
-mod asking;
 mod body;
 mod call;
 mod card;
@@ -14,17 +12,10 @@ mod member;
 mod parts;
 mod path;
 mod refusal;
-#[cfg(test)]
-mod refusal_tests;
 mod reply;
 mod response;
-#[cfg(test)]
-mod response_tests;
 mod router;
-#[cfg(test)]
-mod tests;
-#[cfg(test)]
-mod user_tests;
+mod table;
 
 pub use call::to_call;
 pub use http_wire::{Allow, Method, NoMemory, Request, Response};

@@ -2,9 +2,10 @@
 ghost use Rattle.std.specs.Prelude.{◌≡◌};
 ghost use Rattle.serde_json.specs.View.{view};
 ghost use Rattle.block_content.specs.Reads.{Reads};
-ghost use Rattle.wire_model.specs.Forms.{id_at, slug_at, content_at, position_at, truth_at, user_at, group_at, permission_at, digest_at, named, all_positions, position_text, all_permissions, permission_text};
+ghost use Rattle.wire_model.specs.Forms.{id_at, slug_at, content_at, position_at, truth_at, user_at, group_at, permission_at, digest_at};
 
 use crate::digest::written_digest;
+use crate::table::named;
 use block_content::members::{member, page_id, slug, text_at, truth, whole_within};
 use block_content::{ContentFault, read_content};
 use serde_json::Value;
@@ -13,6 +14,7 @@ use site_types::{
     UserId,
 };
 use std::alloc::Global;
+use wire_model::{PERMISSIONS, POSITIONS};
 
 /// The id of a page at the member of this name.
 pub(crate) fn id_at(value: &Value, name: &str) -> Option<PageId>
@@ -43,32 +45,7 @@ pub(crate) fn position_at(value: &Value) -> Option<Position>
     ensures { result ≡ position_at (view value.now) }
 {
     let text = text_at(value, "position")?;
-    position_named(text)
-}
-
-/// The position with this text.
-fn position_named(text: &str) -> Option<Position>
-    ensures { result ≡ named position_text all_positions text.now }
-{
-    if text == "first-child" {
-        return Some(Position::FirstChild);
-    }
-    if text == "last-child" {
-        return Some(Position::LastChild);
-    }
-    if text == "first-sibling" {
-        return Some(Position::FirstSibling);
-    }
-    if text == "left" {
-        return Some(Position::Left);
-    }
-    if text == "right" {
-        return Some(Position::Right);
-    }
-    if text == "last-sibling" {
-        return Some(Position::LastSibling);
-    }
-    None
+    named(&POSITIONS, text)
 }
 
 /// The truth value at the member of this name.
@@ -107,30 +84,5 @@ pub(crate) fn permission_at(value: &Value) -> Option<Permission>
     ensures { result ≡ permission_at (view value.now) }
 {
     let text = text_at(value, "permission")?;
-    permission_named(text)
-}
-
-/// The permission with this text.
-fn permission_named(text: &str) -> Option<Permission>
-    ensures { result ≡ named permission_text all_permissions text.now }
-{
-    if text == "add" {
-        return Some(Permission::Add);
-    }
-    if text == "change" {
-        return Some(Permission::Change);
-    }
-    if text == "publish" {
-        return Some(Permission::Publish);
-    }
-    if text == "bulk_delete" {
-        return Some(Permission::BulkDelete);
-    }
-    if text == "lock" {
-        return Some(Permission::Lock);
-    }
-    if text == "unlock" {
-        return Some(Permission::Unlock);
-    }
-    None
+    named(&PERMISSIONS, text)
 }

@@ -57,7 +57,7 @@ pub(crate) fn number_or_zero(number: Option<u32>) -> Value
     Value::from(number.unwrap_or(0))
 }
 
-/// The text of a moment, or null where there is none.
+/// The text of a moment, or null if there is none.
 pub(crate) fn time_value(alloc: Global, at: Option<Moment>) -> Result<Value, NoMemory>
     ensures { IfOk result (λ value. view value ≡ time_or_null at) }
 {
@@ -67,7 +67,7 @@ pub(crate) fn time_value(alloc: Global, at: Option<Moment>) -> Result<Value, NoM
     }
 }
 
-/// The status of a page's moderation, `none` where there is none.
+/// The status of a page's moderation, `none` if there is none.
 pub(crate) fn moderation_status(moderation: &Option<Moderation>) -> &'static str
     ensures { moderation_status moderation.now ≡ string result.now }
 {
@@ -77,7 +77,7 @@ pub(crate) fn moderation_status(moderation: &Option<Moderation>) -> &'static str
     }
 }
 
-/// The place of the task of a page's moderation, from 1 on, 0 where there is none.
+/// The place of the task of a page's moderation, from 1 on, 0 if there is none.
 pub(crate) fn moderation_task(moderation: &Option<Moderation>) -> u8
     ensures { moderation_task moderation.now ≡ whole result }
 {

@@ -1,22 +1,22 @@
 //! The paths of requests.
-ghost use Rattle.std.specs.Prelude.{◌≡◌, ◌==◌, not, true, IfOk};
+ghost use Rattle.std.specs.Prelude.{◌≡◌, ◌==◌, not, map, option_map, IfOk};
 ghost use Rattle.std.specs.List.{list_all};
 ghost use Rattle.std.specs.Str.{IsUtf8};
-ghost use Rattle.wire_model.specs.Routes.{route_of, card_named, is_part, has_part_behind, is_api, closed_path};
-ghost use Rattle.api_routes.specs.Routing.{route_meant, route_beside};
+ghost use Rattle.wire_model.specs.Routes.{route_of, beside, read_route, read_at, is_part, has_part_after, is_api, closed_path};
+ghost use Rattle.api_routes.specs.Routing.{route_meant};
 ghost use Rattle.api_routes.specs.Calling.{ends_with_slash};
 
 use site_types::{NoMemory, Url};
 use std::alloc::Global;
-use wire_model::{API, API_FRONT, CARD_FRONT, CommandForm, DESKS_FRONT, REFS_FRONT};
+use wire_model::{API, API_FRONT, CommandForm, READ_ROUTES, ReadForm, ReadRoute};
 
 /// What a path leads to.
 #[derive(Drop)]
 pub enum Route<'p> {
     /// Commands of this form.
     Command(CommandForm),
-    /// The card of the page that this text names, if it is an id.
-    Card(&'p [u8]),
+    /// What is read of the page that this text names, if it is an id.
+    Read(ReadForm, &'p [u8]),
     /// What is not built yet.
     Unbuilt,
     /// No route.
@@ -49,9 +49,9 @@ fn is_no_slash(byte: u8) -> bool
     byte != b'/'
 }
 
-/// Whether the path has one part behind this front.
-fn has_part_behind(path: &[u8], front: &[u8]) -> bool
-    ensures { result ≡ has_part_behind front.now path.now }
+/// Whether the path is this front and one part after it.
+fn has_part_after(path: &[u8], front: &[u8]) -> bool
+    ensures { result ≡ has_part_after front.now path.now }
 {
     match path.strip_prefix(front) {
         Some(rest) => is_part(rest),
@@ -59,24 +59,16 @@ fn has_part_behind(path: &[u8], front: &[u8]) -> bool
     }
 }
 
-/// Whether the path is not for everybody: `/api`, or one that begins with `/api/`.
+/// Whether the path belongs to the API: it is `/api`, or begins with `/api/`.
 fn is_api(path: &[u8]) -> bool
     ensures { result ≡ is_api path.now }
 {
     path == API || path.starts_with(API_FRONT)
 }
 
-/// The text in the place of the id in a path to a card.
-pub fn card_text(path: &[u8]) -> &[u8]
-    requires { has_part_behind CARD_FRONT.now path.now ≡ true }
-    ensures { route_of path.now ≡ card_named result.now }
-{
-    &path[CARD_FRONT.len()..]
-}
-
 /// Where a path leads that is no route.
 pub fn beside_routes<'p>(path: &'p [u8]) -> Route<'p>
-    ensures { route_meant result ≡ route_beside path.now }
+    ensures { route_meant result ≡ beside path.now }
 {
     if is_api(path) {
         Route::Nowhere
@@ -85,22 +77,41 @@ pub fn beside_routes<'p>(path: &'p [u8]) -> Route<'p>
     }
 }
 
-/// Where a path leads that is not UTF-8, and so may only be a route with a parameter. The router
-/// reads texts alone; the grammar of requests has no such path.
+/// The route that reads a form of the page that this text names, if it is built.
+pub fn read_route<'p>(text: &'p [u8], form: Option<ReadForm>) -> Route<'p>
+    ensures { route_meant result ≡ read_route text.now form }
+{
+    match form {
+        Some(form) => Route::Read(form, text),
+        None => Route::Unbuilt,
+    }
+}
+
+/// The route of reads of a path, by the first of these fronts that has one part after it.
+fn read_at<'p>(mut table: &[ReadRoute], path: &'p [u8]) -> Option<Route<'p>>
+    ensures { option_map route_meant result
+        ≡ read_at (map (λ row. (row.0.now, row.1)) table.entry.now) path.now }
+{
+    while let [row, rest @ ..] = table {
+        let front = row.0.as_bytes();
+        if has_part_after(path, front) {
+            return Some(read_route(&path[front.len()..], row.1));
+        }
+        table = rest;
+    }
+    None
+}
+
+/// Where a path leads that is not UTF-8, and so may only be a route of reads. The router takes
+/// texts alone; the grammar of requests has none of them.
 pub fn route_of_bytes<'p>(path: &'p [u8]) -> Route<'p>
     requires { IsUtf8 path.now → ⊥ }
     ensures { route_meant result ≡ route_of path.now }
 {
-    if has_part_behind(path, CARD_FRONT) {
-        return Route::Card(card_text(path));
+    match read_at(&READ_ROUTES, path) {
+        Some(route) => route,
+        None => beside_routes(path),
     }
-    if has_part_behind(path, REFS_FRONT) {
-        return Route::Unbuilt;
-    }
-    if has_part_behind(path, DESKS_FRONT) {
-        return Route::Unbuilt;
-    }
-    beside_routes(path)
 }
 
 /// The path with a `/` at its end.

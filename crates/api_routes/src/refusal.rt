@@ -4,11 +4,11 @@ ghost use Rattle.serde_json.specs.View.{view};
 ghost use Rattle.wire_model.specs.Answers.{refusal_data, refusal_status};
 
 use http_wire::StatusCode;
-use serde_json::{Value, json};
+use serde_json::{Map, Value, put};
 use site_types::{NoMemory, Refusal};
 use std::alloc::Global;
 
-/// The status of a refusal: 404 where a page is not there, 403 where a need is not met, else 409.
+/// The status of a refusal: 404 if a page does not exist, 403 if a need is not met, else 409.
 pub(crate) fn refusal_status(refusal: &Refusal) -> StatusCode
     ensures { result ≡ refusal_status refusal.now }
 {
@@ -23,10 +23,17 @@ pub(crate) fn refusal_status(refusal: &Refusal) -> StatusCode
 pub(crate) fn refusal_value(alloc: Global, refusal: &Refusal) -> Result<Value, NoMemory>
     ensures { IfOk result (λ value. view value ≡ refusal_data refusal.now) }
 {
-    let name = refusal.name();
-    let number = refusal.number();
-    match refusal.carried() {
-        Some(carried) => Ok(json!(in alloc; {"name": name, "refused": number, "with": carried})?),
-        None => Ok(json!(in alloc; {"name": name, "refused": number})?),
+    let name = Value::try_from_str(alloc, refusal.name())?;
+    let mut members = Map::new(alloc);
+    put(&mut members, alloc, "name", name)?;
+    put(
+        &mut members,
+        alloc,
+        "refused",
+        Value::from(refusal.number()),
+    )?;
+    if let Some(carried) = refusal.carried() {
+        put(&mut members, alloc, "with", Value::from(carried))?;
     }
+    Ok(Value::Object(members))
 }

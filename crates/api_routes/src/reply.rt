@@ -27,7 +27,7 @@ pub(crate) fn reply_value(alloc: Global, entry: u64, reply: &Reply) -> Result<Va
     }
 }
 
-/// The body where a page was made or came to another place or slug.
+/// The body after a page was made, or got another place or slug.
 fn page_value(
     alloc: Global,
     entry: u64,
@@ -56,7 +56,7 @@ fn page_value(
     Ok(Value::Object(members))
 }
 
-/// The body where there is nothing to tell.
+/// The body if there is nothing more to say.
 fn done_value(alloc: Global, entry: u64) -> Result<Value, NoMemory>
     ensures { IfOk result (λ value. view value ≡ reply_data entry Reply.Done) }
 {
@@ -99,7 +99,7 @@ fn ticked_value(
     Ok(Value::Object(members))
 }
 
-/// The body where a moderation went on: its status, and the place of its task from 1 on.
+/// The body after an event of a moderation: its status, and the place of its task from 1 on.
 fn moderated_value(
     alloc: Global,
     entry: u64,
@@ -112,7 +112,7 @@ fn moderated_value(
     Ok(json!(in alloc; {"entry": entry, "status": status, "task": task})?)
 }
 
-/// The body where a page was published, or only scheduled.
+/// The body after a page was published, or only scheduled.
 fn published_value(alloc: Global, entry: u64, scheduled: bool) -> Result<Value, NoMemory>
     ensures { IfOk result (λ value. view value ≡ reply_data entry (Reply.Published scheduled)) }
 {

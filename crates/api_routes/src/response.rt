@@ -15,7 +15,7 @@ use std::alloc::Global;
 use wire_model::Answer;
 
 /// The response to an answer: its status, its body of JSON, and at 405 the method that the route
-/// takes. Only want of memory refuses it.
+/// takes. It fails only if memory runs out.
 #[tactic(auto, unfolding(wire_model::specs::Answers::response_of))]
 pub fn to_response(alloc: Global, answer: &Answer) -> Result<Response, NoMemory>
     ensures { IfOk result (λ response. wire.response_of response ≡ response_of answer.now) }
@@ -90,10 +90,10 @@ fn body_text(alloc: Global, value: &Value) -> Result<Bytes, NoMemory>
 fn head_status(status: u16) -> StatusCode
     ensures { result ≡ head_status status }
 {
-    if status == 413 {
+    if status == StatusCode::ContentTooLarge.number() {
         return StatusCode::ContentTooLarge;
     }
-    if status == 431 {
+    if status == StatusCode::HeaderFieldsTooLarge.number() {
         return StatusCode::HeaderFieldsTooLarge;
     }
     StatusCode::BadRequest
@@ -103,8 +103,8 @@ fn head_status(status: u16) -> StatusCode
 fn head_error(status: u16) -> &'static str
     ensures { result.now ≡ head_error status }
 {
-    if status == 413 || status == 431 {
-        return "TooLarge";
+    match head_status(status) {
+        StatusCode::BadRequest => "Head",
+        _ => "TooLarge",
     }
-    "Head"
 }

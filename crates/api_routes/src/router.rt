@@ -1,70 +1,27 @@
-//! The router of all requests.
+//! The router of all requests, made of the tables of routes.
 ghost use Rattle.std.specs.Prelude.{◌≡◌, IfOk, OnOk, MatchOption, map};
-ghost use Rattle.wire_model.specs.Forms.{form_path};
-ghost use Rattle.wire_model.specs.Routes.{route_of};
-ghost use Rattle.api_routes.specs.Router.{all_routes, with_route, with_commands, with_unbuilt};
-ghost use Rattle.api_routes.specs.Routing.{Leads, route_beside, route_meant};
+ghost use Rattle.wire_model.specs.Routes.{route_of, beside, command_route};
+ghost use Rattle.api_routes.specs.Router.{all_routes, with_route, with_commands, with_reads};
+ghost use Rattle.api_routes.specs.Routing.{Leads, route_meant};
 
-use crate::path::{Route, beside_routes, card_text, route_of_bytes};
+use crate::path::{Route, beside_routes, read_route, route_of_bytes};
 use matchit::Router;
 use site_ids::NoMemory;
 use std::alloc::Global;
 use std::marker::Model;
-use wire_model::CommandForm;
+use wire_model::{COMMAND_ROUTES, CommandForm, CommandRoute, READ_ROUTES, ReadForm, ReadRoute};
 
 /// What a route of the router leads to.
 #[derive(Clone, Copy, Debug, PartialEq, Eq)]
 pub enum Target {
-    /// Commands of this form.
-    Command(CommandForm),
-    /// The card of the page that the parameter names.
-    Card,
-    /// What is not built yet.
-    Unbuilt,
+    /// Commands of this form, if the route is built.
+    Command(Option<CommandForm>),
+    /// What is read of the page that is named after so many bytes, if the route is built.
+    Read(usize, Option<ReadForm>),
 }
 
-/// The forms of commands whose routes are built.
-const FORMS: [CommandForm; 8] = [
-    CommandForm::Create,
-    CommandForm::Move,
-    CommandForm::Delete,
-    CommandForm::SetSlug,
-    CommandForm::DefineUser,
-    CommandForm::DefineGroup,
-    CommandForm::Member,
-    CommandForm::Grant,
-];
-
-/// The route of cards.
-const CARD_ROUTE: &str = "/api/pages/{id}";
-
-/// The routes of what is not built yet.
-const UNBUILT_ROUTES: [&str; 24] = [
-    "/api/refs/{id}",
-    "/api/desks/{id}",
-    "/api/alias",
-    "/api/detach",
-    "/api/copy",
-    "/api/open",
-    "/api/save",
-    "/api/shut",
-    "/api/file",
-    "/api/publish",
-    "/api/unpublish",
-    "/api/unschedule",
-    "/api/lock",
-    "/api/unlock",
-    "/api/purge",
-    "/api/tasks",
-    "/api/workflows",
-    "/api/assign",
-    "/api/submit",
-    "/api/approve",
-    "/api/reject",
-    "/api/cancel",
-    "/api/tick",
-    "/api/checkpoint",
-];
+/// The parameter of a route, for the part of a path that names a page.
+const PARAMETER: &str = "{id}";
 
 /// The router of all requests, made once. It stays as it is, and so may serve many threads.
 #[derive(Drop)]
@@ -92,9 +49,8 @@ impl Routes {
         ensures { IfOk result (λ routes. routes ≡ all_routes) }
     {
         let mut router = Router::new(alloc);
-        add_commands(&mut router, &FORMS)?;
-        add(&mut router, CARD_ROUTE, Target::Card)?;
-        add_unbuilt(&mut router, &UNBUILT_ROUTES)?;
+        add_commands(&mut router, &COMMAND_ROUTES)?;
+        add_reads(alloc, &mut router, &READ_ROUTES)?;
         Ok(Routes { router })
     }
 
@@ -107,15 +63,14 @@ impl Routes {
         };
         match self.find(text) {
             None => beside_routes(path),
-            Some(Target::Command(form)) => Route::Command(form),
-            Some(Target::Card) => Route::Card(card_text(path)),
-            Some(Target::Unbuilt) => Route::Unbuilt,
+            Some(Target::Command(form)) => command_route(form),
+            Some(Target::Read(front, form)) => read_route(&path[front..], form),
         }
     }
 
-    /// What the router has for a path, or `None` where the path is no route.
+    /// What the router has for a path, or `None` if the path is no route.
     fn find(&self, path: &str) -> Option<Target>
-        ensures { MatchOption result (route_of path.now ≡ route_beside path.now) (Leads path.now) }
+        ensures { MatchOption result (route_of path.now ≡ beside path.now) (Leads path.now) }
     {
         match self.router.at(path) {
             Ok(found) => Some(*found.value),
@@ -124,7 +79,17 @@ impl Routes {
     }
 }
 
-/// Adds a route. No two of the routes conflict, so only want of memory refuses one.
+/// The route of commands of a form, if it is built.
+fn command_route<'p>(form: Option<CommandForm>) -> Route<'p>
+    ensures { route_meant result ≡ command_route form }
+{
+    match form {
+        Some(form) => Route::Command(form),
+        None => Route::Unbuilt,
+    }
+}
+
+/// Adds a route. No two of the routes conflict, so only running out of memory refuses one.
 fn add(router: &mut Router<Target>, route: &str, target: Target) -> Result<(), NoMemory>
     ensures { OnOk result (router.new ≡ with_route route.now target router.old) }
 {
@@ -134,39 +99,32 @@ fn add(router: &mut Router<Target>, route: &str, target: Target) -> Result<(), N
     Ok(())
 }
 
-/// The route of commands of this form.
-fn command_route(form: CommandForm) -> &'static str
-    ensures { result.now ≡ form_path form }
+/// Adds the routes of commands of a table.
+fn add_commands(router: &mut Router<Target>, mut table: &[CommandRoute]) -> Result<(), NoMemory>
+    ensures { OnOk result (router.new
+        ≡ with_commands (map (λ row. (row.0.now, row.1)) table.entry.now) router.old) }
 {
-    match form {
-        CommandForm::Create => "/api/pages",
-        CommandForm::Move => "/api/move",
-        CommandForm::Delete => "/api/delete",
-        CommandForm::SetSlug => "/api/slug",
-        CommandForm::DefineUser => "/api/users",
-        CommandForm::DefineGroup => "/api/groups",
-        CommandForm::Member => "/api/members",
-        CommandForm::Grant => "/api/grants",
-    }
-}
-
-/// Adds the routes of commands of these forms.
-fn add_commands(router: &mut Router<Target>, forms: &[CommandForm]) -> Result<(), NoMemory>
-    ensures { OnOk result (router.new ≡ with_commands forms.now router.old) }
-{
-    for form in forms {
-        add(router, command_route(*form), Target::Command(*form))?;
+    while let [row, rest @ ..] = table {
+        add(router, row.0, Target::Command(row.1))?;
+        table = rest;
     }
     Ok(())
 }
 
-/// Adds routes of what is not built yet.
-fn add_unbuilt(router: &mut Router<Target>, routes: &[&str]) -> Result<(), NoMemory>
-    ensures { OnOk result
-        (router.new ≡ with_unbuilt (map (λ route. route.now) routes.now) router.old) }
+/// Adds the routes of reads of a table.
+fn add_reads(
+    alloc: Global,
+    router: &mut Router<Target>,
+    mut table: &[ReadRoute],
+) -> Result<(), NoMemory>
+    ensures { OnOk result (router.new
+        ≡ with_reads (map (λ row. (row.0.now, row.1)) table.entry.now) router.old) }
 {
-    for route in routes {
-        add(router, route, Target::Unbuilt)?;
+    while let [row, rest @ ..] = table {
+        let mut route = String::from_str(alloc, row.0)?;
+        route.push_str(PARAMETER)?;
+        add(router, &route, Target::Read(row.0.len(), row.1))?;
+        table = rest;
     }
     Ok(())
 }

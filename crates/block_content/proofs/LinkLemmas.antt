@@ -13,13 +13,13 @@ only_one : {X : Type 0} (x y : X) → Contains (x ∷ []) y → x ≡ y
 only_one x y (zero, lt, e) = e
 only_one x y (suc k, lt, e) = absurd (omega arith)
 
--- an element of a list is its first or stands behind it
+-- an element of a list is its first or stands after it
 first_or_later : {X P : Type 0} (x : X) (xs : List X) (y : X) → Contains (x ∷ xs) y →
     (x ≡ y → P) → (Contains xs y → P) → P
 first_or_later x xs y has first later =
     ⊎_elim (λ one. first (only_one x y one)) later (Contains-append_cases (x ∷ []) xs y has)
 
--- what stands behind the first is in the list
+-- what stands after the first is in the list
 behind_first : {X : Type 0} (x : X) (xs : List X) (y : X) → Contains xs y → Contains (x ∷ xs) y
 behind_first x xs y has = Contains-append_right (x ∷ []) xs y has
 

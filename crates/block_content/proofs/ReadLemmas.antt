@@ -19,14 +19,14 @@ pub no_members_left : (names : List (Bor (List ℕ))) →
 no_members_left [] = refl
 no_members_left (name ∷ names) = grind (arith, nat_tests)
 
--- one more that was read stands behind what was read so far
+-- one more that was read stands after what was read so far
 one_more : {A : Type 0} (found : List A) (a : A) (rest : Option (List A)) →
     option_map (λ more. found ++ more) (option_map (λ more. a ∷ more) rest)
     ≡ option_map (λ more. (found ++ a ∷ []) ++ more) rest
 one_more found a None = refl
 one_more found a (Some more) = ap Some (sym (append_assoc found (a ∷ []) more))
 
--- where the next of the values is read, it stands behind what was read so far
+-- where the next of the values is read, it stands after what was read so far
 pub next_is_read : {A : Type 0} (read : Data → Option A) (values : List Value) (k : ℕ)
     (value : Value) (found : List A) (a : A) (whole : Option (List A)) →
     k < length values → value ≡ get_or values k value → read (view value) ≡ Some a →

@@ -17,7 +17,7 @@ one_more : (blocks : List Block) (k : ℕ) (block : Block) → k < length blocks
 one_more blocks k block lt is =
     let more = take_more blocks k block lt in rw (← is) at more
 
--- the next block's value stands behind those of the blocks so far
+-- the next block's value stands after those of the blocks so far
 pub next_is_written : (blocks : List Block) (k : ℕ) (block : Block) (values : List Value)
     (value : Value) → k < length blocks → block ≡ get_or blocks k block →
     view value ≡ block_data block → map view values ≡ map block_data (take k blocks) →

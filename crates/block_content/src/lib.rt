@@ -6,8 +6,6 @@ mod fault;
 mod linked;
 pub mod members;
 mod read;
-#[cfg(test)]
-mod tests;
 mod write;
 
 pub use fault::ContentFault;

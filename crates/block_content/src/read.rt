@@ -16,8 +16,8 @@ use site_types::{Block, Blocks, Content, PageId, Text, Texts};
 use std::alloc::Global;
 
 /// The content that a value is, on memory of its own. `Bad` says that the value is none: it is not
-/// an object of the members blocks and title alone, one of its parts has another form, or a limit is
-/// broken.
+/// an object of the members blocks and title alone, one of its parts has another form, or it breaks
+/// a limit.
 pub fn read_content(alloc: Global, value: &Value) -> Result<Content, ContentFault>
     ensures ok { IfOk result (λ content. content_of (view value.now) ≡ Some content) }
     ensures bad { IsErrOf result ContentFault.Bad → content_of (view value.now) ≡ None }

@@ -55,7 +55,7 @@ place_of-past days more from day past =
     let behind : nat_lt day (days from) ≡ false = le-ltb day (days from) past in
     rw (behind, place_of) refl
 
--- no period is passed but the given one, where there are none behind it
+-- no period is passed but the given one, where there are none after it
 place_of_last : (days : ℕ → ℕ) (from day : ℕ) →
     days_of_first days from + day < days_of_first days (suc from) →
     IsPlace days (0 + from) from day (place_of days zero from day)
@@ -66,7 +66,7 @@ place_of_last days from day inside = record {
   same = refl;
 }
 
--- a day before the end of these periods has such a place
+-- a day before the end of these periods has a place in them
 pub place_of_right : (days : ℕ → ℕ) (more from day : ℕ) →
     days_of_first days from + day < days_of_first days (suc (more + from)) →
     IsPlace days (more + from) from day (place_of days more from day)

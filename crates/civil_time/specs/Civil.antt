@@ -2,6 +2,7 @@
 -- of a second), in the years 1970 to 9998, with no leap seconds.
 use Rattle.std.specs.Prelude.{ℕ, ◌+◌, ◌*◌, ◌/◌, ◌%◌, ◌<◌, ◌≤◌, List, [], ◌∷◌, ◌++◌}
 use Rattle.civil_time.specs.Calendar.{days_to_date, month_days}
+use Rattle.civil_time.specs.declared.years.TheConstants.{FIRST_YEAR, LAST_YEAR}
 
 -- a date and a time of day
 pub record Civil : Type 0 where
@@ -15,8 +16,8 @@ pub record Civil : Type 0 where
 -- it exists: the calendar has the date, and a clock shows the time
 abbrev pub IsCivil : Civil → Type 0
 IsCivil civil = record {
-  first_year : 1970 ≤ civil.year;
-  last_year : civil.year ≤ 9998;
+  first_year : FIRST_YEAR ≤ civil.year;
+  last_year : civil.year ≤ LAST_YEAR;
   first_month : 1 ≤ civil.month;
   last_month : civil.month ≤ 12;
   first_day : 1 ≤ civil.day;

@@ -8,7 +8,7 @@ use Rattle.page_tree.specs.Rows.{Row, rows_below, child_url}
 use Rattle.page_tree.proofs.RowLemmas.{AllIds-weaker}
 use Rattle.page_tree.proofs.WalkLemmas.{walk-absent}
 use Rattle.page_store.proofs.AllLemmas.{All-append, All-both}
-use Rattle.path_moves.proofs.Apart.{Lacks, AreApart, rows_ids, rows_parents}
+use Rattle.tree_rows.proofs.Apart.{Lacks, AreApart, rows_ids, rows_parents}
 
 -- the second of three tests that holds
 second_holds : (a b c : Bool) → b ≡ true → a || (b || c) ≡ true

@@ -6,7 +6,7 @@ use Rattle.page_tree.specs.Rows.{comes_before}
 use Rattle.site_types.specs.declared.world_rows.Grant.{Grant}
 use Rattle.site_model.specs.Rights.{permission_number}
 use Rattle.site_model.specs.Users.{grant_key}
-use Rattle.site_model.specs.UserSound.{KeysRise}
+use Rattle.site_model.specs.Sound.{KeysRise}
 use Rattle.site_model.proofs.OrderLemmas.{rise_filter}
 use Rattle.grants.specs.Places.{place_of}
 use Rattle.grants.proofs.KeyLemmas.{before_trans}

@@ -4,8 +4,8 @@ use Rattle.std.proofs.lemmas.Bool.Decides.{nat_tests}
 use Rattle.site_types.specs.declared.world_rows.Grant.{Grant}
 use Rattle.site_model.specs.Rights.{permission_number}
 use Rattle.site_model.specs.Users.{grant_key, is_grant}
-use Rattle.site_model.specs.UserSound.{KeysRise}
-use Rattle.grants.specs.Lists.{grants_with}
+use Rattle.site_model.specs.Sound.{KeysRise}
+use Rattle.flat_model.specs.People.{grants_with}
 use Rattle.grants.specs.Places.{search_told}
 use Rattle.grants.proofs.PlaceLemmas.{IsTestOf}
 use Rattle.grants.proofs.SearchLemmas.{taken_where_told, put_where_told, rise_with}

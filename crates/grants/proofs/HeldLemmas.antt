@@ -11,7 +11,9 @@ use Rattle.site_types.specs.declared.permission.Permission.TheVariants.{Add, Cha
 use Rattle.site_types.specs.declared.world_rows.Member.{Member}
 use Rattle.site_types.specs.declared.world_rows.Grant.{Grant}
 use Rattle.site_model.specs.World.{TreePart}
-use Rattle.site_model.specs.Rights.{gives, is_same, is_superuser, held}
+use Rattle.site_types.specs.declared.world_rows.UserRow.{UserRow}
+use Rattle.site_model.specs.Rights.{gives, is_same, is_superuser, is_granted, held}
+use Rattle.site_model.proofs.RightLemmas.{held_by_walks}
 use Rattle.grants.specs.declared.right.Held.{Held}
 use Rattle.grants.specs.Granted.{held_where, held_either}
 use Rattle.grants.specs.Needs.{seen_held}
@@ -165,6 +167,24 @@ granted_along part page members grants =
     list_any (gives (map (λ (m : Member). m.group) members) p visit.id) grants)
     (walk page part.tree))
 
+-- what the model says is held is what these tests say, as the model has it
+held_seen : (part : TreePart) (user page : ℕ) →
+    seen_held (held_where (λ p. is_superuser part.users user || is_granted part user p page))
+    ≡ held part user page
+held_seen part user page =
+    let walks = held_by_walks part user page in
+    rw (walks Add, walks Change, walks Publish, walks BulkDelete, walks Lock, walks Unlock) refl
+
+-- a superuser holds everything
+pub all_held : (part : TreePart) (user page : ℕ) (users : List UserRow) → users ≡ part.users →
+    is_superuser users user ≡ true →
+    seen_held (held_where (λ p. true)) ≡ held part user page
+all_held part user page users same super =
+    let there : is_superuser part.users user ≡ true = ap (λ us. is_superuser us user) (sym same) ∙ super in
+    ap seen_held (held_agree (λ p. true)
+    (λ p. is_superuser part.users user || is_granted part user p page) (λ p. rw there refl))
+    ∙ held_seen part user page
+
 -- nobody but a superuser holds more than that
 pub held_is : (part : TreePart) (user page : ℕ) (result : Held) (members : List Member)
     (grants : List Grant) → is_superuser part.users user ≡ false →
@@ -175,4 +195,7 @@ held_is part user page result members grants none own all is =
     ∙ (ap (λ ms. seen_held (granted_along part page ms grants)) own
     ∙ (ap (λ gs. seen_held (granted_along part page
     (filter (λ (m : Member). nat_eq m.user user) part.members) gs)) all
-    ∙ rw none refl))
+    ∙ (ap seen_held (held_agree
+    (λ p. is_granted part user p page)
+    (λ p. is_superuser part.users user || is_granted part user p page) (λ p. rw none refl))
+    ∙ held_seen part user page)))

@@ -6,8 +6,13 @@ pub mod GrantLemmas
 pub mod CutLemmas
 pub mod UserLemmas
 pub mod SpanLemmas
+pub mod LiveLemmas
 pub mod NeedLemmas
+pub mod PassingLemmas
 pub mod OwnLemmas
 pub mod UpLemmas
 pub mod AboveLemmas
 pub mod HeldLemmas
+pub mod StandingLemmas
+pub mod StepLemmas
+pub mod FrontLemmas

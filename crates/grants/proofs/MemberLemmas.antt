@@ -3,8 +3,8 @@ use Rattle.std.proofs.Common.{◌≡◌, ℕ, ◌<◌, ◌≤◌, Bool, true, fa
 use Rattle.std.proofs.lemmas.Bool.Decides.{nat_tests}
 use Rattle.site_types.specs.declared.world_rows.Member.{Member}
 use Rattle.site_model.specs.Users.{member_key, membership, is_membership}
-use Rattle.site_model.specs.UserSound.{KeysRise}
-use Rattle.grants.specs.Lists.{members_with}
+use Rattle.site_model.specs.Sound.{KeysRise}
+use Rattle.flat_model.specs.People.{members_with}
 use Rattle.grants.specs.Places.{search_told}
 use Rattle.grants.proofs.PlaceLemmas.{IsTestOf}
 use Rattle.grants.proofs.SearchLemmas.{taken_where_told, put_where_told, rise_with}

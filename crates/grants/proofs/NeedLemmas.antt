@@ -1,96 +1,28 @@
--- The first need that is not met, where no page is live or moderated.
-use Rattle.std.proofs.Common.{◌≡◌, ℕ, Bool, true, false, cond, List, [], ◌∷◌, Option, Some, None, IsSome, is_some, unwrap_or, refl, sym, ap, ◌∙◌, rules}
+-- The first need that is not met, by what is held and what is kept of a page.
+use Rattle.std.proofs.Common.{◌≡◌, ℕ, Bool, true, false, not, ◌&&◌, ◌||◌, cond, nat_eq, List, [], ◌∷◌, ◌++◌, Option, Some, None, IsSome, is_some, unwrap_or, refl, sym, ap, ◌∙◌, rules}
 use Rattle.std.specs.Prelude.{option_and_then}
-use Rattle.page_tree.specs.Tree.{Forest, has_page}
+use Rattle.std.specs.Option.{option_map}
+use Rattle.page_tree.specs.Tree.{Forest, bare, grown, has_page, node_of}
 use Rattle.page_tree.specs.Rows.{row_with, rows_of}
 use Rattle.page_tree.proofs.RowLemmas.{has_page-rows}
-use Rattle.site_types.specs.Content.{ContentValue}
 use Rattle.site_types.specs.declared.body.Body.{Body}
-use Rattle.site_types.specs.declared.command.Command.{Command}
-use Rattle.site_types.specs.declared.command.Command.TheVariants.{Create, Move, Delete, SetSlug, DefineUser, DefineGroup, Member, Grant}
 use Rattle.site_types.specs.declared.permission.Permission.{Permission}
-use Rattle.site_types.specs.declared.permission.Permission.TheVariants.{Add, Publish, BulkDelete}
+use Rattle.site_types.specs.declared.permission.Permission.TheVariants.{Add, Change, Publish, BulkDelete, Lock, Unlock}
 use Rattle.site_types.specs.declared.position.Position.{Position}
 use Rattle.site_types.specs.declared.world_rows.UserRow.{UserRow}
 use Rattle.tree_model.specs.Places.{is_beside, parent_at}
+use Rattle.tree_model.specs.Shape.{AllPages}
+use Rattle.tree_model.proofs.PageLemmas.{AllPages-node_of}
 use Rattle.page_store.specs.Pages.{Page}
 use Rattle.site_model.specs.World.{TreePart}
-use Rattle.site_model.specs.Drafts.{AreDrafts, draft_need}
-use Rattle.site_model.specs.Rights.{is_superuser, has_kids}
-use Rattle.site_model.specs.Needs.{SUPERUSER_NEED, needs_of, may, first_unmet, live_need, take_need, need_at, need_where, edit_need, unmet, create_needs, delete_needs, move_needs, slug_needs}
-use Rattle.site_model.proofs.DraftLemmas.{needs_of_drafts}
-
--- the only need
-one_unmet : (need : Option ℕ) → first_unmet (need ∷ []) ≡ need
-one_unmet None = refl
-one_unmet (Some number) = refl
-
--- the last of three needs of which the others are met
-third_unmet : (one two three : Option ℕ) → None ≡ one → two ≡ None →
-    three ≡ first_unmet (one ∷ two ∷ three ∷ [])
-third_unmet None None three first second = sym (one_unmet three)
-third_unmet None (Some other) three first second = absurd cc
-third_unmet (Some other) two three first second = absurd cc
-
--- the third of four needs of which the others are met
-fourth_met : (one two three four : Option ℕ) → None ≡ one → two ≡ None → four ≡ None →
-    three ≡ first_unmet (one ∷ two ∷ three ∷ four ∷ [])
-fourth_met None None None four first second last = sym (one_unmet four ∙ last)
-fourth_met None None (Some number) four first second last = refl
-fourth_met None (Some other) three four first second last = absurd cc
-fourth_met (Some other) two three four first second last = absurd cc
-
--- the first of two needs of which the other is met
-first_of_two : (one two : Option ℕ) → two ≡ None → one ≡ first_unmet (one ∷ two ∷ [])
-first_of_two None two last = sym (one_unmet two ∙ last)
-first_of_two (Some number) two last = refl
-
--- nobody needs to publish where no page is live
-none_live : (part : TreePart) (user page at : ℕ) → AreDrafts part →
-    live_need part user page at ≡ None
-none_live part user page at drafts =
-    ap (λ t. need_where t part user Publish at) (needs_of_drafts part user page drafts).0
-
--- the needs of a deletion where the page may be taken away
-pub deletion_is : (part : TreePart) (user page : ℕ) (bulk : Option ℕ) → AreDrafts part →
-    None ≡ take_need part user page →
-    bulk ≡ need_where (has_kids part.tree page) part user BulkDelete page →
-    bulk ≡ first_unmet (delete_needs part user page)
-deletion_is part user page bulk drafts taken is =
-    is
-    ∙ third_unmet (take_need part user page) (live_need part user page page)
-    (need_where (has_kids part.tree page) part user BulkDelete page) taken
-    (none_live part user page page drafts)
-
--- the needs of a move where the page may be taken away, by the rows
-pub move_is : (part : TreePart) (user page target parent : ℕ) (position : Position)
-    (pages : List Page) (add : Option ℕ) → AreDrafts part → pages ≡ rows_of part.tree →
-    None ≡ take_need part user page →
-    parent ≡ cond (is_beside position)
-    (unwrap_or (option_and_then (λ (row : Page). row.parent) (row_with target pages)) 0) target →
-    add ≡ need_at part user Add parent →
-    add ≡ first_unmet (move_needs part user page target position)
-move_is part user page target parent position pages add drafts stands taken parent_is is =
-    let at : parent ≡ parent_at part.tree target position =
-    parent_is ∙ ap (λ rows. cond (is_beside position)
-    (unwrap_or (option_and_then (λ (row : Page). row.parent) (row_with target rows)) 0) target)
-    stands in
-    is
-    ∙ (ap (need_at part user Add) at
-    ∙ fourth_met (take_need part user page) (live_need part user page page)
-    (need_at part user Add (parent_at part.tree target position))
-    (live_need part user page (parent_at part.tree target position)) taken
-    (none_live part user page page drafts)
-    (none_live part user page (parent_at part.tree target position) drafts))
-
--- the needs of another slug
-pub slug_is : (part : TreePart) (user page : ℕ) (edit : Option ℕ) → AreDrafts part →
-    edit ≡ draft_need part user page → edit ≡ first_unmet (slug_needs part user page)
-slug_is part user page edit drafts is =
-    is
-    ∙ (sym (needs_of_drafts part user page drafts).1
-    ∙ first_of_two (edit_need part user page) (live_need part user page page)
-    (none_live part user page page drafts))
+use Rattle.site_model.specs.Rights as rights
+use Rattle.site_model.specs.Rights.{rights_of, above_of, has, permission_number, is_superuser}
+use Rattle.site_model.specs.Views.{first_body, body_of, view_of, meets, any_live, may_edit}
+use Rattle.site_model.specs.Needs as needs
+use Rattle.site_model.specs.Needs.{first_unmet, unless_met, need_at, need_where, edit_need, unmet}
+use Rattle.site_model.proofs.ViewLemmas.{seen, view_is}
+use Rattle.grants.specs.declared.right.Held.{Held}
+use Rattle.grants.specs.Needs.{seen_held, is_held, is_by, NoModeration}
 
 -- a page that is there has a row
 pub has_row : (page : ℕ) (tree : Forest Body) (pages : List Page) → pages ≡ rows_of tree →
@@ -104,99 +36,263 @@ has_row page tree pages stands there =
     by None is = absurd cc
     by (Some row) is = search rules
 
--- whether a command is for superusers alone
-abbrev pub is_for_superusers : Command → Bool
-is_for_superusers (DefineUser superuser digest) = true
-is_for_superusers DefineGroup = true
-is_for_superusers (Member member group on) = true
-is_for_superusers (Grant group page permission on) = true
-is_for_superusers _ = false
+-- a page that has a row is kept
+pub row_kept : (page : ℕ) (tree : Forest Body) (pages : List Page) → pages ≡ rows_of tree →
+    IsSome (row_with page pages) →
+    body_of tree page ≡ option_map (λ (row : Page). row.body) (row_with page pages) →
+    (body : Body) × (body_of tree page ≡ Some body)
+row_kept page tree pages stands there is = by (row_with page pages) there is
+  where
+    by : (o : Option Page) → IsSome o →
+        body_of tree page ≡ option_map (λ (row : Page). row.body) o →
+        (body : Body) × (body_of tree page ≡ Some body)
+    by None some e = absurd (search rules)
+    by (Some row) some e = (row.body, e)
 
--- a command that is none of four is not for superusers alone
-pub not_for_superusers : (command : Command) →
-    ((superuser : Bool) (digest : List ℕ) → command ≡ DefineUser superuser digest → ⊥) →
-    (command ≡ DefineGroup → ⊥) →
-    ((user group : ℕ) (on : Bool) → command ≡ Member user group on → ⊥) →
-    ((group page : ℕ) (permission : Permission) (on : Bool) →
-    command ≡ Grant group page permission on → ⊥) →
-    is_for_superusers command ≡ false
-not_for_superusers (DefineUser superuser digest) define group member grant =
-    absurd (define superuser digest refl)
-not_for_superusers DefineGroup define group member grant = absurd (group refl)
-not_for_superusers (Member user of on) define group member grant =
-    absurd (member user of on refl)
-not_for_superusers (Grant of page permission on) define group member grant =
-    absurd (grant of page permission on refl)
-not_for_superusers _ define group member grant = refl
+-- the first of several needs
+pub first_is : (one : Option ℕ) (more : List (Option ℕ)) (number : ℕ) → Some number ≡ one →
+    Some number ≡ first_unmet (one ∷ more)
+first_is None more number is = absurd cc
+first_is (Some other) more number is = is
+
+-- the needs after one that is met
+pub later_is : (one result : Option ℕ) (more : List (Option ℕ)) → None ≡ one →
+    result ≡ first_unmet more → result ≡ first_unmet (one ∷ more)
+later_is None result more met is = is
+later_is (Some other) result more met is = absurd cc
+
+-- the only need
+pub only_is : (one result : Option ℕ) → result ≡ one → result ≡ first_unmet (one ∷ [])
+only_is None result is = is
+only_is (Some number) result is = is
+
+-- the first need of some, before others
+pub some_of : (one more : List (Option ℕ)) (number : ℕ) → Some number ≡ first_unmet one →
+    Some number ≡ first_unmet (one ++ more)
+some_of [] more number is = absurd cc
+some_of (None ∷ one) more number is = some_of one more number is
+some_of (Some other ∷ one) more number is = is
+
+-- the needs after some that are met
+pub rest_of : (one more : List (Option ℕ)) (result : Option ℕ) → None ≡ first_unmet one →
+    result ≡ first_unmet more → result ≡ first_unmet (one ++ more)
+rest_of [] more result met is = is
+rest_of (None ∷ one) more result met is = rest_of one more result met is
+rest_of (Some other ∷ one) more result met is = absurd cc
+
+-- a need that is met
+met : (test : Bool) (number : ℕ) → test ≡ true → None ≡ unless_met test number
+met true number is = refl
+met false number is = absurd cc
+
+-- and one that is not
+not_met : (test : Bool) (number : ℕ) → test ≡ false → Some number ≡ unless_met test number
+not_met true number is = absurd cc
+not_met false number is = refl
+
+-- a permission is held where it is among those that are held
+held_has : (part : TreePart) (user page : ℕ) (permission : Permission) (held : Held) →
+    seen_held held ≡ rights.held part user page →
+    is_held held permission ≡ has part user permission page
+held_has part user page Add held is = ap (λ (h : rights.Held). h.add) is
+held_has part user page Change held is = ap (λ (h : rights.Held). h.change) is
+held_has part user page Publish held is = ap (λ (h : rights.Held). h.publish) is
+held_has part user page BulkDelete held is = ap (λ (h : rights.Held). h.bulk_delete) is
+held_has part user page Lock held is = ap (λ (h : rights.Held). h.lock) is
+held_has part user page Unlock held is = ap (λ (h : rights.Held). h.unlock) is
+
+module _ (part : TreePart) (user page : ℕ) (permission : Permission) (held : Held)
+    (is_held_there : seen_held held ≡ rights.held part user page) (result : Bool)
+    (is : result ≡ is_held held permission) where
+  -- the need of a permission that is held
+  pub hold_met : result ≡ true → None ≡ need_at part user permission page
+  hold_met holds =
+      met (has part user permission page) (permission_number permission)
+      (sym (held_has part user page permission held is_held_there) ∙ (sym is ∙ holds))
+
+  -- and of one that is not
+  pub hold_unmet : (number : ℕ) → number ≡ permission_number permission → result ≡ false →
+      Some number ≡ need_at part user permission page
+  hold_unmet number same holds =
+      ap Some same
+      ∙ not_met (has part user permission page) (permission_number permission)
+      (sym (held_has part user page permission held is_held_there) ∙ (sym is ∙ holds))
+
+module _ (part : TreePart) (user at : ℕ) (permission : Permission) (test : Bool) where
+  -- a need that is met, where a test holds or not
+  pub where_met : None ≡ need_at part user permission at →
+      None ≡ need_where test part user permission at
+  where_met is = by test
+    where
+      by : (t : Bool) → None ≡ need_where t part user permission at
+      by true = is
+      by false = refl
+
+  -- a need where the test holds
+  pub where_true : (result : Option ℕ) (told : Bool) → told ≡ test → told ≡ true →
+      result ≡ need_at part user permission at →
+      result ≡ need_where test part user permission at
+  where_true result told is holds need = need ∙ rw (← is, holds) refl
+
+  -- and where it does not
+  pub where_false : (told : Bool) → told ≡ test → told ≡ false →
+      None ≡ need_where test part user permission at
+  where_false told is fails = rw (← is, fails) refl
+
+  -- a need that is not met, where the test holds
+  pub where_told : (result : Option ℕ) (told : Bool) (number : ℕ) → told ≡ test →
+      result ≡ cond told (Some number) None → Some number ≡ need_at part user permission at →
+      result ≡ need_where test part user permission at
+  where_told result told number is same need = by told is same
+    where
+      by : (t : Bool) → t ≡ test → result ≡ cond t (Some number) None →
+          result ≡ need_where test part user permission at
+      by true e s = s ∙ (need ∙ rw (← e) refl)
+      by false e s = s ∙ rw (← e) refl
+
+-- the parent to which a position leads, by the rows
+pub parent_is : (tree : Forest Body) (pages : List Page) (target parent : ℕ) (position : Position) →
+    pages ≡ rows_of tree →
+    parent ≡ cond (is_beside position)
+    (unwrap_or (option_and_then (λ (row : Page). row.parent) (row_with target pages)) 0) target →
+    parent ≡ parent_at tree target position
+parent_is tree pages target parent position stands is =
+    is
+    ∙ ap (λ rows. cond (is_beside position)
+    (unwrap_or (option_and_then (λ (row : Page). row.parent) (row_with target rows)) 0) target)
+    stands
+
+-- what is kept of a page is not moderated where none is
+unmoderated : (f : Forest Body) (body : Body) → NoModeration f → first_body f ≡ Some body →
+    body.moderation ≡ None
+unmoderated bare body none is = absurd cc
+unmoderated (grown i s slug own kids rest) body none is =
+    let same : own ≡ body = cc in
+    ap (λ (one : Body). one.moderation) (sym same) ∙ none.0
+
+-- nor is a page that is looked for
+pub not_moderated : (tree : Forest Body) (page : ℕ) (body : Body) → NoModeration tree →
+    body_of tree page ≡ Some body → body.moderation ≡ None
+not_moderated tree page body none is =
+    unmoderated (node_of page tree) body
+    (AllPages-node_of (λ id slug (one : Body). one.moderation ≡ None) page tree none) is
+
+-- three tests of which the last fails
+without_last : (a b c : Bool) → c ≡ false → a || b ≡ a || (b || c)
+without_last true b c is = refl
+without_last false true c is = refl
+without_last false false c is = sym is
+
+module _ (part : TreePart) (user page : ℕ) (body : Body)
+    (kept : body_of part.tree page ≡ Some body) where
+  -- what is seen of a page
+  view_kept : view_of part page ≡ Some (seen part (above_of part.tree page) body)
+  view_kept = view_is part page ∙ rw kept refl
+
+  module _ (held : Held) (is_held_there : seen_held held ≡ rights.held part user page)
+      (none : body.moderation ≡ None) (result : Bool)
+      (is : result ≡ held.change || (held.add && nat_eq body.owner user)) where
+    -- one may edit a page that is not moderated by these two rights
+    edits : result ≡ meets (may_edit (rights_of part user)) (view_of part page)
+    edits =
+        is
+        ∙ (rw (
+          held_has part user page Change held is_held_there,
+          held_has part user page Add held is_held_there,
+        ) (without_last (has part user Change page)
+        (has part user Add page && nat_eq body.owner user) _ (rw none refl))
+        ∙ ap (meets (may_edit (rights_of part user))) (sym view_kept))
+
+    -- so the need to edit it is met
+    pub edit_met : result ≡ true → None ≡ edit_need part user page
+    edit_met holds =
+        met (meets (may_edit (rights_of part user)) (view_of part page)) (permission_number Change)
+        (sym edits ∙ holds)
+
+    -- or not
+    pub edit_unmet : result ≡ false → Some 2 ≡ edit_need part user page
+    edit_unmet fails =
+        not_met (meets (may_edit (rights_of part user)) (view_of part page))
+        (permission_number Change) (sym edits ∙ fails)
+
+  -- whoever has locked a page is who its row names
+  locks : meets (needs.has_locked user) (view_of part page) ≡ is_by body.locked_by user
+  locks = ap (meets (needs.has_locked user)) view_kept ∙ by body.locked_by refl
+    where
+      by : (other : Option ℕ) → body.locked_by ≡ other →
+          needs.has_locked user (seen part (above_of part.tree page) body)
+          ≡ is_by body.locked_by user
+      by None e = rw e refl
+      by (Some other) e = rw e refl
+
+  -- whoever has locked a page may unlock it
+  pub unlock_met : (result : Bool) → result ≡ is_by body.locked_by user → result ≡ true →
+      None ≡ first_unmet (needs.unlock_needs part user page)
+  unlock_met result is holds =
+      only_is (unless_met (meets (needs.has_locked user) (view_of part page)
+      || has part user Unlock page) (permission_number Unlock)) None
+      (met _ (permission_number Unlock)
+      (ap (λ t. t || has part user Unlock page) (locks ∙ (sym is ∙ holds))))
+
+  -- anybody else needs the permission
+  pub unlock_else : (result : Bool) (need : Option ℕ) → result ≡ is_by body.locked_by user →
+      result ≡ false → need ≡ need_at part user Unlock page →
+      need ≡ first_unmet (needs.unlock_needs part user page)
+  unlock_else result need is fails told =
+      only_is (unless_met (meets (needs.has_locked user) (view_of part page)
+      || has part user Unlock page) (permission_number Unlock)) need
+      (told ∙ ap (λ t. unless_met (t || has part user Unlock page) (permission_number Unlock))
+      (sym (locks ∙ (sym is ∙ fails))))
+
+  -- whoever has submitted a moderation may give it up
+  pub cancel_met : (result : Bool) → result ≡ needs.has_submitted user (Some body) →
+      result ≡ true → None ≡ first_unmet (needs.cancel_needs part user page)
+  cancel_met result is holds =
+      only_is (unless_met (needs.has_submitted user (body_of part.tree page)
+      || has part user Publish page) (permission_number Publish)) None
+      (met _ (permission_number Publish)
+      (ap (λ t. t || has part user Publish page)
+      (ap (needs.has_submitted user) kept ∙ (sym is ∙ holds))))
+
+  -- anybody else needs the permission
+  pub cancel_else : (result : Bool) (need : Option ℕ) →
+      result ≡ needs.has_submitted user (Some body) → result ≡ false →
+      need ≡ need_at part user Publish page →
+      need ≡ first_unmet (needs.cancel_needs part user page)
+  cancel_else result need is fails told =
+      only_is (unless_met (needs.has_submitted user (body_of part.tree page)
+      || has part user Publish page) (permission_number Publish)) need
+      (told ∙ ap (λ t. unless_met (t || has part user Publish page) (permission_number Publish))
+      (sym (ap (needs.has_submitted user) kept ∙ (sym is ∙ fails))))
+
+  -- whoever asks may answer what is not moderated
+  pub answer_met : body.moderation ≡ None → None ≡ first_unmet (needs.answer_needs part user page)
+  answer_met none =
+      only_is (unless_met (meets (needs.may_answer (rights_of part user)) (view_of part page))
+      needs.APPROVE_NEED) None
+      (met _ needs.APPROVE_NEED
+      (ap (meets (needs.may_answer (rights_of part user))) view_kept ∙ rw none refl))
 
 -- who is no superuser among the users of a store is none in a world
 pub no_superuser : (part : TreePart) (users : List UserRow) (user : ℕ) → users ≡ part.users →
     is_superuser users user ≡ false → is_superuser part.users user ≡ false
-no_superuser part users user same none =
-    ap (λ us. is_superuser us user) (sym same) ∙ none
+no_superuser part users user same none = ap (λ us. is_superuser us user) (sym same) ∙ none
 
-module _ (part : TreePart) (user : ℕ) (none : is_superuser part.users user ≡ false) where
-  -- the first need that is not met, of one who is no superuser
-  unmet_is : (needs : List (Option ℕ)) (need : Option ℕ) → need ≡ first_unmet needs →
-      need ≡ unmet part user needs
-  unmet_is needs need is = is ∙ ap (λ t. cond t None (first_unmet needs)) (sym none)
+-- who is one, is one there
+pub superuser_there : (part : TreePart) (users : List UserRow) (user : ℕ) → users ≡ part.users →
+    is_superuser users user ≡ true → (all : List (Option ℕ)) → None ≡ unmet part user all
+superuser_there part users user same super all =
+    let there : is_superuser part.users user ≡ true =
+    ap (λ us. is_superuser us user) (sym same) ∙ super in
+    rw there refl
 
-  -- that of a creation
-  pub create_told : (parent : ℕ) (slug : List ℕ) (content : ContentValue) (need : Option ℕ) →
-      need ≡ need_at part user Add parent → need ≡ may part user (Create parent slug content)
-  unfolding needs_of
-  create_told parent slug content need is =
-      unmet_is (create_needs part user parent) need
-      (is ∙ sym (one_unmet (need_at part user Add parent)))
+-- the first need that is not met, of one who is no superuser
+pub unmet_is : (part : TreePart) (user : ℕ) → is_superuser part.users user ≡ false →
+    (all : List (Option ℕ)) (need : Option ℕ) → need ≡ first_unmet all →
+    need ≡ unmet part user all
+unmet_is part user none all need is = is ∙ ap (λ t. cond t None (first_unmet all)) (sym none)
 
-  -- that of a move
-  pub move_told : (page target : ℕ) (position : Position) (need : Option ℕ) →
-      need ≡ first_unmet (move_needs part user page target position) →
-      need ≡ may part user (Move page target position)
-  unfolding needs_of
-  move_told page target position need is =
-      unmet_is (move_needs part user page target position) need is
-
-  -- that of a deletion
-  pub delete_told : (page : ℕ) (need : Option ℕ) →
-      need ≡ first_unmet (delete_needs part user page) → need ≡ may part user (Delete page)
-  unfolding needs_of
-  delete_told page need is = unmet_is (delete_needs part user page) need is
-
-  -- that of another slug
-  pub slug_told : (page : ℕ) (slug : List ℕ) (need : Option ℕ) →
-      need ≡ first_unmet (slug_needs part user page) → need ≡ may part user (SetSlug page slug)
-  unfolding needs_of
-  slug_told page slug need is = unmet_is (slug_needs part user page) need is
-
-  -- each command that is for superusers alone needs one
-  pub superuser_told : (command : Command) → is_for_superusers command ≡ true →
-      Some SUPERUSER_NEED ≡ may part user command
-  unfolding needs_of
-  superuser_told (DefineUser superuser digest) is = rw none refl
-  superuser_told DefineGroup is = rw none refl
-  superuser_told (Member member group on) is = rw none refl
-  superuser_told (Grant group page permission on) is = rw none refl
-  superuser_told _ is = absurd cc
-
-  -- and a command that is not built needs nothing
-  pub other_told : (command : Command) →
-      ((parent : ℕ) (slug : List ℕ) (content : ContentValue) →
-      command ≡ Create parent slug content → ⊥) →
-      ((page target : ℕ) (position : Position) → command ≡ Move page target position → ⊥) →
-      ((page : ℕ) → command ≡ Delete page → ⊥) →
-      ((page : ℕ) (slug : List ℕ) → command ≡ SetSlug page slug → ⊥) →
-      is_for_superusers command ≡ false → None ≡ may part user command
-  unfolding needs_of
-  other_told (Create parent slug content) create move delete set_slug is =
-      absurd (create parent slug content refl)
-  other_told (Move page target position) create move delete set_slug is =
-      absurd (move page target position refl)
-  other_told (Delete page) create move delete set_slug is = absurd (delete page refl)
-  other_told (SetSlug page slug) create move delete set_slug is =
-      absurd (set_slug page slug refl)
-  other_told (DefineUser superuser digest) create move delete set_slug is = absurd cc
-  other_told DefineGroup create move delete set_slug is = absurd cc
-  other_told (Member member group on) create move delete set_slug is = absurd cc
-  other_told (Grant group page permission on) create move delete set_slug is = absurd cc
-  other_told _ create move delete set_slug is = unmet_is [] None refl
+-- one who is no superuser needs to be one
+pub super_unmet : (part : TreePart) (user : ℕ) → is_superuser part.users user ≡ false →
+    Some needs.SUPERUSER_NEED ≡ first_unmet (needs.superuser_needs part user)
+super_unmet part user none = rw none refl

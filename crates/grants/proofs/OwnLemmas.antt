@@ -4,15 +4,15 @@ use Rattle.std.specs.List.{list_all}
 use Rattle.std.specs.Option.{option_map, option_map_or, IfSome}
 use Rattle.std.proofs.lemmas.List.{length-drop}
 use Rattle.std.proofs.lemmas.List.Folds.{list_all-append}
-use Rattle.page_tree.specs.Tree.{Forest, bare, grown, kids_of}
+use Rattle.page_tree.specs.Tree.{Forest, bare, grown, node_of, kids_of}
 use Rattle.page_tree.specs.Rows.{rows_below, rows_of, row_with, child_url}
 use Rattle.site_types.specs.declared.body.Body.{Body}
 use Rattle.site_types.specs.declared.page_row.PageRow.{PageRow}
 use Rattle.page_store.specs.PageRows.{page_row, IsRange}
 use Rattle.page_store.specs.Pages.{Page, ArePages}
-use Rattle.path_moves.specs.Subtree.{subtree_rows}
-use Rattle.path_moves.proofs.SubtreeLemmas.{block_rows, range_rows, found_block, found_at_place}
-use Rattle.site_model.specs.Rights.{any_page, is_owner, owns_all, has_kids}
+use Rattle.tree_rows.specs.Subtree.{subtree_rows}
+use Rattle.tree_rows.proofs.SubtreeLemmas.{block_rows, range_rows, found_block, found_at_place}
+use Rattle.site_model.specs.Views.{any_page, owns_all, has_kids}
 
 -- an item that fails among the first ones
 fails_within : {Item : Type 0} (test : Item → Bool) (xs : List Item) (count at : ℕ) →
@@ -114,33 +114,21 @@ place_has_row pages place id are is none =
     by None h n = cc
     by (Some row) h n = cc
 
--- and its owner is that of the page
-pub place_owned : (user : ℕ) (pages : List Page) (place id : ℕ) (row : PageRow) →
-    ArePages pages → Some id ≡ option_map (λ (row : Page). row.id) (slice_get pages place) →
-    Some row ≡ option_map page_row (row_with id pages) →
-    nat_eq row.body.owner user
-    ≡ option_map_or (λ (page : Page). nat_eq page.body.owner user) (slice_get pages place) false
-place_owned user pages place id row are is found =
-    let page = row_found row id pages found in
-    ap (λ (r : PageRow). nat_eq r.body.owner user) page.2
-    ∙ ap (λ (o : Option Page). option_map_or (λ (r : Page). nat_eq r.body.owner user) o false)
-    (sym page.1 ∙ sym (row_at_place pages place id are is))
-
-module _ (user : ℕ) where
-  -- each of these rows is owned where none of these pages is another's
-  rows_owned : (parent : Option ℕ) (path url : List ℕ) (f : Forest Body) →
-      list_all (λ (row : Page). nat_eq row.body.owner user) (rows_below parent path url f)
-      ≡ not (any_page (λ body. not (nat_eq body.owner user)) f)
-  rows_owned parent path url bare = refl
-  rows_owned parent path url (grown i s slug body kids rest) =
+module _ (test : Body → Bool) where
+  -- each of these rows passes where none of these pages fails
+  rows_all : (parent : Option ℕ) (path url : List ℕ) (f : Forest Body) →
+      list_all (λ (row : Page). test row.body) (rows_below parent path url f)
+      ≡ not (any_page (λ body. not (test body)) f)
+  rows_all parent path url bare = refl
+  rows_all parent path url (grown i s slug body kids rest) =
       rw (
-        list_all-append (λ (row : Page). nat_eq row.body.owner user)
+        list_all-append (λ (row : Page). test row.body)
             (rows_below (Some i) (path ++ s ∷ []) (child_url url slug) kids)
             (rows_below parent path url rest),
-        rows_owned (Some i) (path ++ s ∷ []) (child_url url slug) kids,
-        rows_owned parent path url rest,
-      ) (each (nat_eq body.owner user) (any_page (λ body. not (nat_eq body.owner user)) kids)
-      (any_page (λ body. not (nat_eq body.owner user)) rest))
+        rows_all (Some i) (path ++ s ∷ []) (child_url url slug) kids,
+        rows_all parent path url rest,
+      ) (each (test body) (any_page (λ body. not (test body)) kids)
+      (any_page (λ body. not (test body)) rest))
     where
       each : (a b c : Bool) → a && (not b && not c) ≡ not (not a || (b || c))
       each true true c = refl
@@ -149,17 +137,17 @@ module _ (user : ℕ) where
 
   module _ (pages : List Page) (are : ArePages pages) (tree : Forest Body)
       (is_tree : pages ≡ rows_of tree) (id : ℕ) where
-    -- the rows of a page's range are owned where the page and all below it are
-    pub range_owned : (place count : ℕ) → IsSome (row_with id pages) →
+    -- the rows of a page's range pass where the page and all below it do
+    pub range_all : (place count : ℕ) → IsSome (row_with id pages) →
         IfSome (row_with id pages) (λ row. IsRange pages row place count) →
-        list_all (λ (row : Page). nat_eq row.body.owner user) (take count (drop place pages))
-        ≡ owns_all tree user id
-    range_owned place count there range = by (row_with id pages) refl there range
+        list_all (λ (row : Page). test row.body) (take count (drop place pages))
+        ≡ not (any_page (λ body. not (test body)) (node_of id tree))
+    range_all place count there range = by (row_with id pages) refl there range
       where
         by : (o : Option Page) → row_with id pages ≡ o → IsSome o →
             IfSome o (λ row. IsRange pages row place count) →
-            list_all (λ (row : Page). nat_eq row.body.owner user) (take count (drop place pages))
-            ≡ owns_all tree user id
+            list_all (λ (row : Page). test row.body) (take count (drop place pages))
+            ≡ not (any_page (λ body. not (test body)) (node_of id tree))
         by None e there range = absurd (search rules)
         by (Some row) e there range =
             let found : row_with id (rows_of tree) ≡ Some row = rw is_tree at e in
@@ -170,40 +158,48 @@ module _ (user : ℕ) where
             sym (range_rows pages row place count range) ∙ (ap (subtree_rows row.path) is_tree
             ∙ (ap (λ (r : Page). subtree_rows r.path (rows_of tree)) block.1
             ∙ block_rows id 0 None [] [] tree b)) in
-            ap (list_all (λ (row : Page). nat_eq row.body.owner user)) rows
-            ∙ (ap (λ t. nat_eq b.top.body.owner user && t)
-            (rows_owned (Some id) b.top.path b.top.url (kids_of id tree))
-            ∙ (one (nat_eq b.top.body.owner user)
-            (any_page (λ body. not (nat_eq body.owner user)) (kids_of id tree))
-            ∙ ap (λ node. not (any_page (λ body. not (nat_eq body.owner user)) node))
-            (sym b.node_is)))
+            ap (list_all (λ (row : Page). test row.body)) rows
+            ∙ (ap (λ t. test b.top.body && t)
+            (rows_all (Some id) b.top.path b.top.url (kids_of id tree))
+            ∙ (one (test b.top.body) (any_page (λ body. not (test body)) (kids_of id tree))
+            ∙ ap (λ node. not (any_page (λ body. not (test body)) node)) (sym b.node_is)))
           where
             one : (a k : Bool) → a && not k ≡ not (not a || (k || false))
             one true true = refl
             one true false = refl
             one false k = refl
 
-    -- the owner in a page's row
-    pub row_owned : (row : PageRow) → Some row ≡ option_map page_row (row_with id pages) →
-        nat_eq row.body.owner user ≡ is_owner tree user id
-    row_owned row is =
-        let page = row_found row id pages is in
-        let found : row_with id (rows_of tree) ≡ Some page.0 =
-        ap (row_with id) (sym is_tree) ∙ page.1 in
-        let block = found_block tree id page.0 (subst ArePages is_tree are) found in
-        let b = block.0 in
-        ap (λ (r : PageRow). nat_eq r.body.owner user) page.2
-        ∙ (ap (λ (r : Page). nat_eq r.body.owner user) block.1 ∙ rw b.node_is refl)
+module _ (pages : List Page) (are : ArePages pages) (tree : Forest Body)
+    (is_tree : pages ≡ rows_of tree) (id : ℕ) where
+  -- the rows of a page's range are owned where the page and all below it are
+  pub range_owned : (user place count : ℕ) → IsSome (row_with id pages) →
+      IfSome (row_with id pages) (λ row. IsRange pages row place count) →
+      list_all (λ (row : Page). nat_eq row.body.owner user) (take count (drop place pages))
+      ≡ owns_all tree user id
+  range_owned user = range_all (λ body. nat_eq body.owner user) pages are tree is_tree id
 
-    -- the number of kids in a page's row
-    pub row_kids : (row : PageRow) → Some row ≡ option_map page_row (row_with id pages) →
-        not (nat_eq row.numchild 0) ≡ has_kids tree id
-    row_kids row is =
-        let page = row_found row id pages is in
-        let found : row_with id (rows_of tree) ≡ Some page.0 =
-        ap (row_with id) (sym is_tree) ∙ page.1 in
-        let block = found_block tree id page.0 (subst ArePages is_tree are) found in
-        let b = block.0 in
-        ap (λ (r : PageRow). not (nat_eq r.numchild 0)) page.2
-        ∙ (ap (λ (r : Page). not (nat_eq r.numchild 0)) block.1
-        ∙ ap (λ n. not (nat_eq n 0)) b.count_is)
+  -- the number of kids in a page's row
+  pub row_kids : (row : PageRow) → Some row ≡ option_map page_row (row_with id pages) →
+      not (nat_eq row.numchild 0) ≡ has_kids tree id
+  row_kids row is =
+      let page = row_found row id pages is in
+      let found : row_with id (rows_of tree) ≡ Some page.0 =
+      ap (row_with id) (sym is_tree) ∙ page.1 in
+      let block = found_block tree id page.0 (subst ArePages is_tree are) found in
+      let b = block.0 in
+      ap (λ (r : PageRow). not (nat_eq r.numchild 0)) page.2
+      ∙ (ap (λ (r : Page). not (nat_eq r.numchild 0)) block.1
+      ∙ ap (λ n. not (nat_eq n 0)) b.count_is)
+
+-- a row at a place passes a test of its page
+pub place_told : (test : Body → Bool) (pages : List Page) (place id : ℕ) (row : PageRow)
+    (told : Bool) → ArePages pages →
+    Some id ≡ option_map (λ (row : Page). row.id) (slice_get pages place) →
+    Some row ≡ option_map page_row (row_with id pages) → told ≡ test row.body →
+    told ≡ option_map_or (λ (page : Page). test page.body) (slice_get pages place) false
+place_told test pages place id row told are is found same =
+    let page = row_found row id pages found in
+    same
+    ∙ (ap (λ (r : PageRow). test r.body) page.2
+    ∙ ap (λ (o : Option Page). option_map_or (λ (r : Page). test r.body) o false)
+    (sym page.1 ∙ sym (row_at_place pages place id are is)))

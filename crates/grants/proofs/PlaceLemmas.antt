@@ -5,7 +5,7 @@ use Rattle.std.specs.List.{AllByRecursion, list_any, slice_get}
 use Rattle.std.specs.List.Sorted.{IsPartitionPoint, IsPartitionedBy}
 use Rattle.page_tree.specs.Rows.{comes_before}
 use Rattle.site_model.specs.Users.{put_in}
-use Rattle.site_model.specs.UserSound.{KeysRise}
+use Rattle.site_model.specs.Sound.{KeysRise}
 use Rattle.grants.specs.Places.{place_of, passes}
 use Rattle.grants.proofs.KeyLemmas.{before_trans, before_other, before_back, before_self}
 

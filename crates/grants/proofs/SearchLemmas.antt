@@ -2,7 +2,7 @@
 use Rattle.std.proofs.Common.{◌≡◌, ℕ, zero, suc, ◌<◌, ◌≤◌, Bool, true, false, cond, not, List, [], ◌∷◌, Result, Ok, Err, length, filter, insert, remove, refl, ◌∙◌, arith}
 use Rattle.std.specs.List.{list_any, slice_get}
 use Rattle.site_model.specs.Users.{agree, put_in}
-use Rattle.site_model.specs.UserSound.{KeysRise}
+use Rattle.site_model.specs.Sound.{KeysRise}
 use Rattle.site_model.proofs.OrderLemmas.{rise_put, rise_filter}
 use Rattle.grants.specs.Places.{place_of, search_told, passes}
 use Rattle.grants.proofs.PlaceLemmas.{IsTestOf, place_within, found_at_place, taken_at_place, put_at_place, none_has_key}

@@ -13,8 +13,8 @@ use Rattle.site_types.specs.declared.body.Body.{Body}
 use Rattle.site_types.specs.declared.permission.Permission.{Permission}
 use Rattle.page_store.specs.Pages.{Page, ArePages, StartsAtRoot}
 use Rattle.page_store.proofs.SeenLemmas.{All-find}
-use Rattle.path_moves.proofs.Positions.{find_passes, has_parent}
-use Rattle.path_moves.proofs.SiteTree.{apart_tree}
+use Rattle.page_store.proofs.ParentLemmas.{find_passes, has_parent}
+use Rattle.tree_rows.proofs.SiteTree.{apart_tree}
 use Rattle.grants.specs.declared.right.Held.{Held}
 use Rattle.grants.specs.Granted.{held_where, held_either}
 use Rattle.grants.proofs.AboveLemmas.{ids_to, ids_above, ids_walked, all_there}

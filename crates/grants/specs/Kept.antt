@@ -6,7 +6,7 @@ use Rattle.site_types.specs.declared.world_rows.UserRow.{UserRow}
 use Rattle.site_types.specs.declared.world_rows.Member.{Member}
 use Rattle.site_types.specs.declared.world_rows.Grant.{Grant}
 use Rattle.site_model.specs.Rights.{user_of}
-use Rattle.site_model.specs.UserSound.{KeysRise}
+use Rattle.site_model.specs.Sound.{KeysRise}
 use Rattle.site_model.specs.Users.{member_key, grant_key}
 
 -- Each user is found by the digest; memberships and grants rise, so that none stands twice.

@@ -2,6 +2,8 @@ pub mod Lists
 pub mod Kept
 pub mod Places
 pub mod Standing
+pub mod Live
+pub mod Stopping
 pub mod Needs
 pub mod Plans
 pub mod Granted

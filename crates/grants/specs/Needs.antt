@@ -1,10 +1,11 @@
--- What is told of rights: what is held, and the first need that is not met.
-use Rattle.std.specs.Prelude.{◌≡◌, ℕ, true, Option, Some, None, Result, Ok, Err}
-use Rattle.page_tree.specs.Tree.{Forest, has_page}
+-- What is told of rights: what is held, the first need that is not met, and what the first rules say.
+use Rattle.std.specs.Prelude.{◌≡◌, ℕ, Bool, false, ◌==◌, Option, Some, None, Result, Ok, Err}
+use Rattle.page_tree.specs.Tree.{Forest}
 use Rattle.site_types.specs.declared.body.Body.{Body}
-use Rattle.site_types.specs.declared.command.Command.{Command}
-use Rattle.site_types.specs.declared.command.Command.TheVariants.{Create, Move, Delete, SetSlug, Grant}
-use Rattle.tree_model.specs.Places.{is_beside}
+use Rattle.site_types.specs.declared.permission.Permission.{Permission}
+use Rattle.site_types.specs.declared.permission.Permission.TheVariants.{Add, Change, Publish, BulkDelete, Lock, Unlock}
+use Rattle.site_types.specs.declared.refusal.Refusal.{Refusal}
+use Rattle.tree_model.specs.Shape.{AllPages}
 use Rattle.site_model.specs.Rights as rights
 use Rattle.grants.specs.declared.right.Held.{Held}
 use Rattle.grants.specs.declared.need.Need.{Need}
@@ -25,19 +26,30 @@ seen_held held =
 abbrev pub need_with : ℕ → Need
 need_with number = record { number = number }
 
--- what is told where this is the first need that is not met, or where there is none
+-- what is answered if this is the first need that is not met, or if there is none
 abbrev pub need_told : Option ℕ → Result (Unit {0}) Need
 need_told None = Ok tt
 need_told (Some number) = Err (need_with number)
 
--- The pages that a command names are there, and it does not take the root away or put a page beside
--- it.
-abbrev pub NamesPages : Forest Body → Command → Type 0
-NamesPages tree (Create parent slug content) = has_page parent tree ≡ true
-NamesPages tree (Move page target position) =
-    (has_page page tree ≡ true) × (has_page target tree ≡ true) × (page ≡ 1 → ⊥)
-    × (is_beside position ≡ true → target ≡ 1 → ⊥)
-NamesPages tree (Delete page) = (has_page page tree ≡ true) × (page ≡ 1 → ⊥)
-NamesPages tree (SetSlug page slug) = (has_page page tree ≡ true) × (page ≡ 1 → ⊥)
-NamesPages tree (Grant group page permission on) = has_page page tree ≡ true
-NamesPages tree _ = Unit {0}
+-- what is answered if this is the first rule that refuses, or if there is none
+abbrev pub rule_told : Option Refusal → Result (Unit {0}) Refusal
+rule_told None = Ok tt
+rule_told (Some refusal) = Err refusal
+
+-- whether a user is this one, if there is one
+abbrev pub is_by : Option ℕ → ℕ → Bool
+is_by None user = false
+is_by (Some other) user = other == user
+
+-- whether a permission is among those that are held
+abbrev pub is_held : Held → Permission → Bool
+is_held held Add = held.add
+is_held held Change = held.change
+is_held held Publish = held.publish
+is_held held BulkDelete = held.bulk_delete
+is_held held Lock = held.lock
+is_held held Unlock = held.unlock
+
+-- No page is moderated: tasks and workflows are not kept in memory yet.
+abbrev pub NoModeration : Forest Body → Type 0
+NoModeration tree = AllPages (λ id slug body. body.moderation ≡ None) tree

@@ -1,138 +1,96 @@
 -- What a plan tells of a command, and what it needs to be carried out.
-use Rattle.std.specs.Prelude.{◌≡◌, ℕ, true, ◌≤◌, List, length, Option, Some, None, Result, Ok, Err}
+use Rattle.std.specs.Prelude.{◌≡◌, ℕ, ◌≤◌, List, [], length, map, Option, None, Result, Ok, Err}
 use Rattle.std.specs.Option.{option_map}
-use Rattle.page_tree.specs.Tree.{has_page, node_of, ids_of, kids_of, kid_with_slug}
-use Rattle.page_tree.specs.Rows.{rows_of, child_url}
-use Rattle.step_path.specs.Path.{path_text}
 use Rattle.site_types.specs.Content.{ContentValue}
 use Rattle.site_types.specs.declared.command.Command.{Command}
-use Rattle.site_types.specs.declared.command.Command.TheVariants as commands
-use Rattle.site_types.specs.declared.page_row.PageRow.{PageRow}
-use Rattle.site_types.specs.declared.position.Position.{Position}
 use Rattle.site_types.specs.declared.reply.Reply.{Reply}
-use Rattle.site_types.specs.declared.revision.Revision.{Revision}
-use Rattle.tree_model.specs.Changes.{url_in, changed_urls}
-use Rattle.tree_model.specs.Places.{moved_to}
-use Rattle.tree_model.specs.Renames.{renamed}
-use Rattle.page_store.specs.declared.plan.MovePlan.{MovePlan}
-use Rattle.path_moves.specs.Append.{appended_path}
-use Rattle.path_moves.specs.Plans.{planned_move}
 use Rattle.site_model.specs.World as worlds
-use Rattle.site_model.specs.Callers.{step_by}
-use Rattle.site_model.specs.Create.{fresh_body, plain_revision}
-use Rattle.site_model.specs.Laws.{FitsCaller}
+use Rattle.site_model.specs.Step.{step_by}
+use Rattle.flat_model.specs.Fits.{Fits}
+use Rattle.flat_model.specs.Flat.{lists_of}
+use Rattle.flat_model.specs.Made.{made}
+use Rattle.flat_model.specs.declared.change.Change.{Change}
+use Rattle.flat_model.specs.declared.change.TreeChange.{TreeChange}
+use Rattle.flat_model.specs.declared.change.TreeChange.TheVariants as trees
+use Rattle.flat_model.specs.declared.change.PeopleChange.{PeopleChange}
+use Rattle.flat_model.specs.declared.change.PeopleChange.TheVariants as people
 use Rattle.grants.specs.declared.fault.Fault.{Fault}
 use Rattle.grants.specs.declared.fault.Fault.TheVariants.{Refused, Memory}
 use Rattle.grants.specs.declared.part.TreePart.{TreePart}
-use Rattle.grants.specs.declared.plan.Change.{Change}
-use Rattle.grants.specs.declared.plan.Change.TheVariants as changes
 use Rattle.grants.specs.declared.plan.Plan.{Plan}
 use Rattle.grants.specs.Standing.{IsReady}
 
--- the row of a page that was just made at a path
-abbrev pub fresh_row : ℕ → ℕ → ℕ → List ℕ → List ℕ → PageRow
-fresh_row owner page revision path slug =
-    record {
-      id = page;
-      path = path_text path;
-      depth = length path;
-      numchild = 0;
-      slug = slug;
-      body = fresh_body owner revision;
-    }
+-- a plan that opens and ends no desk
+abbrev pub quiet_plan : Reply → Change → Plan
+quiet_plan reply change =
+    record { reply = reply; opened = None; shut = []; change = change }
 
--- What a creation puts in: a row behind the last kid of its parent, its URL and its first revision.
-pub record MakesPage (part : worlds.TreePart) (now caller : ℕ) (command : Command) (row : PageRow)
-    (url : List ℕ) (revision : Revision) : Type 0 where
-  pub parent : ℕ
-  pub slug : List ℕ
-  pub content : ContentValue
-  pub command_is : command ≡ commands.Create parent slug content
-  pub path : List ℕ
-  pub appended : appended_path parent part.tree ≡ Ok path
-  pub row_is : row ≡ fresh_row caller part.next_page part.next_revision path slug
-  pub url_is : url ≡ child_url (url_in parent (rows_of part.tree)) slug
-  pub revision_is : revision
-      ≡ plain_revision part.next_revision part.next_page caller (worlds.time_at part now) content
+-- how many rows' room a change of the rows takes at most
+abbrev pub rows_needed : TreeChange → ℕ
+rows_needed trees.Nothing = 0
+rows_needed (trees.Insert new) = length new
+rows_needed (trees.Move plan urls) = 2
+rows_needed (trees.Delete page) = 0
+rows_needed (trees.Rename page slug urls) = 3
 
--- What a move changes: the paths and the URLs of pages.
-pub record MovesPage (part : worlds.TreePart) (command : Command) (plan : MovePlan)
-    (urls : List (ℕ × List ℕ)) : Type 0 where
-  pub page : ℕ
-  pub target : ℕ
-  pub position : Position
-  pub command_is : command ≡ commands.Move page target position
-  pub planned : planned_move part.tree page target position ≡ Ok plan
-  pub urls_are : urls
-      ≡ changed_urls (rows_of part.tree) (rows_of (moved_to part.tree page target position))
-
--- What another slug changes: the slug of the page, and the URLs of pages.
-pub record NamesPage (part : worlds.TreePart) (command : Command) (page : ℕ) (slug : List ℕ)
-    (urls : List (ℕ × List ℕ)) : Type 0 where
-  pub command_is : command ≡ commands.SetSlug page slug
-  pub urls_are : urls ≡ changed_urls (rows_of part.tree) (rows_of (renamed page slug part.tree))
-
--- What a command by this caller at this moment changes.
-abbrev pub IsChange : worlds.TreePart → ℕ → ℕ → Command → Change → Type 0
-IsChange part now caller command (changes.Create row url revision) =
-    MakesPage part now caller command row url revision
-IsChange part now caller command (changes.Move plan urls) = MovesPage part command plan urls
-IsChange part now caller command (changes.Delete page gone) =
-    (command ≡ commands.Delete page) × (gone ≡ ids_of (node_of page part.tree))
-IsChange part now caller command (changes.SetSlug page slug urls) =
-    NamesPage part command page slug urls
-IsChange part now caller command (changes.DefineUser superuser digest) =
-    command ≡ commands.DefineUser superuser digest
-IsChange part now caller command changes.DefineGroup = command ≡ commands.DefineGroup
-IsChange part now caller command (changes.Member user group on) =
-    command ≡ commands.Member user group on
-IsChange part now caller command (changes.Grant group page permission on) =
-    command ≡ commands.Grant group page permission on
-
--- the text of a desk that is opened, as an effect has it
-abbrev pub desk_text : (ℕ × ℕ × ContentValue) → worlds.DeskText
-desk_text desk = record { page = desk.0; text = desk.2 }
-
--- The plan of a command by this caller at this moment, which no rule refuses: what it answers, the
--- desks that it opens and ends, the time after it, and what it changes.
-pub record IsPlan (part : worlds.TreePart) (now caller : ℕ) (command : Command)
-    (after : worlds.TreePart) (effect : worlds.Effect Reply) (plan : Plan) : Type 0 where
-  pub fits : FitsCaller command
-  pub step : step_by part now caller command ≡ Ok (after, effect)
-  pub reply : plan.reply ≡ effect.reply
-  pub opened : option_map desk_text plan.opened ≡ effect.opened
-  pub shut : plan.shut ≡ effect.shut
-  pub time : plan.time ≡ worlds.time_at part now
-  pub change : IsChange part now caller command plan.change
+-- how much room among users, memberships and grants a change of them takes at most
+abbrev pub people_needed : PeopleChange → ℕ
+people_needed people.Nothing = 0
+people_needed (people.User superuser digest) = 1
+people_needed people.Group = 0
+people_needed (people.Member user group on) = 1
+people_needed (people.Grant group page permission on) = 1
 
 -- There is room for what is to be changed, so that no memory is taken.
-abbrev pub HasRoom : TreePart → Change → Type 0
-HasRoom kept (changes.Create row url revision) = (1 ≤ kept.rows.spare) × (1 ≤ kept.shelf.spare)
-HasRoom kept (changes.Move plan urls) = 2 ≤ kept.rows.spare
-HasRoom kept (changes.Delete page gone) = Unit {0}
-HasRoom kept (changes.SetSlug page slug urls) = 3 ≤ kept.rows.spare
-HasRoom kept changes.DefineGroup = Unit {0}
-HasRoom kept _ = 1 ≤ kept.grants.spare
+pub record HasRoom (kept : TreePart) (change : Change) : Type 0 where
+  pub rows : rows_needed change.tree ≤ kept.rows.spare
+  pub revisions : length change.revisions ≤ kept.shelf.spare
+  pub people : people_needed change.people ≤ kept.grants.spare
+
+-- a desk as a plan has it: its page, its user and its text
+abbrev pub desk_of : worlds.Desk → ℕ × ℕ × ContentValue
+desk_of desk = (desk.page, desk.user, desk.text)
+
+-- the pages of desks
+abbrev pub pages_of : List worlds.DeskPair → List ℕ
+pages_of pairs = map (λ pair. pair.page) pairs
+
+-- The plan of a command by this caller at this moment, which no rule refuses, where the caller has this
+-- text at the desk that the command looks at: what it answers, the desk that it opens, with its page,
+-- user and text, and the desks that it ends are those of the step, and what it changes is a change that
+-- the lists of the world can take, and leads to those of the world after the step.
+pub record IsPlan (part : worlds.TreePart) (desk : Option ContentValue) (now caller : ℕ)
+    (command : Command) (after : worlds.TreePart) (effect : worlds.Effect) (plan : Plan) :
+    Type 0 where
+  pub step : step_by part desk now caller command ≡ Ok (after, effect)
+  pub reply : plan.reply ≡ effect.reply
+  pub opened : plan.opened ≡ option_map desk_of effect.opened
+  pub shut : plan.shut ≡ pages_of effect.ended
+  pub change_fits : Fits (lists_of part) plan.change
+  pub leads : made plan.change (lists_of part) ≡ lists_of after
 
 -- A plan is right: what is in memory stands for the world that it was made of, it is the plan of
 -- the command, and there is room.
-pub record CanCommit (kept : TreePart) (part : worlds.TreePart) (now caller : ℕ) (command : Command)
-    (after : worlds.TreePart) (effect : worlds.Effect Reply) (plan : Plan) : Type 0 where
+pub record CanCommit (kept : TreePart) (part : worlds.TreePart) (desk : Option ContentValue)
+    (now caller : ℕ) (command : Command) (after : worlds.TreePart) (effect : worlds.Effect)
+    (plan : Plan) : Type 0 where
   pub ready : IsReady kept part
-  pub right : IsPlan part now caller command after effect plan
+  pub right : IsPlan part desk now caller command after effect plan
   pub room : HasRoom kept plan.change
 
 -- a plan can be committed
-pub record HasPlan (kept : TreePart) (part : worlds.TreePart) (now caller : ℕ) (command : Command)
-    (plan : Plan) : Type 0 where
+pub record HasPlan (kept : TreePart) (part : worlds.TreePart) (desk : Option ContentValue)
+    (now caller : ℕ) (command : Command) (plan : Plan) : Type 0 where
   pub after : worlds.TreePart
-  pub effect : worlds.Effect Reply
-  pub can : CanCommit kept part now caller command after effect plan
+  pub effect : worlds.Effect
+  pub can : CanCommit kept part desk now caller command after effect plan
 
 -- What is told of a command before it changes anything: a plan exactly where no rule refuses it, and
--- the plan is right; or the refusal of the first rule that does. Want of memory says nothing.
-abbrev pub Prepares : worlds.TreePart → ℕ → ℕ → Command → TreePart → Result Plan Fault → Type 0
-Prepares part now caller command kept (Ok plan) = HasPlan kept part now caller command plan
-Prepares part now caller command kept (Err (Refused refusal)) =
-    step_by part now caller command ≡ Err refusal
-Prepares part now caller command kept (Err Memory) = Unit {0}
+-- the plan is right; or the refusal of the first rule that does. Out of memory tells nothing.
+abbrev pub Prepares : worlds.TreePart → Option ContentValue → ℕ → ℕ → Command → TreePart →
+    Result Plan Fault → Type 0
+Prepares part desk now caller command kept (Ok plan) =
+    HasPlan kept part desk now caller command plan
+Prepares part desk now caller command kept (Err (Refused refusal)) =
+    step_by part desk now caller command ≡ Err refusal
+Prepares part desk now caller command kept (Err Memory) = Unit {0}

@@ -1,10 +1,36 @@
 -- How the tree part in memory stands for a world's.
-use Rattle.std.specs.Prelude.{◌≡◌}
+use Rattle.std.specs.Prelude.{◌≡◌, ◌+◌, []}
 use Rattle.page_tree.specs.Rows.{rows_of}
 use Rattle.site_model.specs.World as worlds
 use Rattle.site_model.specs.Reached.{IsReachedPart}
+use Rattle.flat_model.specs.Lists.{PeopleLists, PartLists}
 use Rattle.grants.specs.declared.part.TreePart.{TreePart}
-use Rattle.grants.specs.Lists.{SameLists, ListsStandFor}
+use Rattle.grants.specs.Lists.{GrantLists, SameLists, ListsStandFor}
+
+-- users, groups, memberships and grants in memory, as lists
+abbrev pub seen_people : GrantLists → PeopleLists
+seen_people kept =
+    record {
+      users = kept.users;
+      next_group = kept.groups + 1;
+      members = kept.members;
+      grants = kept.grants;
+    }
+
+-- What is in memory, as lists: no task, no workflow and no open desk is kept yet.
+abbrev pub seen : TreePart → PartLists
+seen kept =
+    record {
+      pages = kept.rows.pages;
+      revisions = kept.shelf.revisions;
+      people = seen_people kept.grants;
+      tasks = [];
+      workflows = [];
+      desk_pairs = [];
+      time = kept.time;
+      next_page = kept.next_page;
+      next_revision = kept.next_revision;
+    }
 
 -- all but the room is as it was
 pub record IsSame (before after : TreePart) : Type 0 where
@@ -16,11 +42,14 @@ pub record IsSame (before after : TreePart) : Type 0 where
   pub next_revision : after.next_revision ≡ before.next_revision
 
 -- What is in memory is what the world has: the rows of its tree, the revisions, the users, groups,
--- memberships and grants, the time and the next ids.
+-- memberships and grants, the time and the next ids; and the world has nothing that is not kept yet.
 pub record StandsFor (kept : TreePart) (part : worlds.TreePart) : Type 0 where
   pub pages : kept.rows.pages ≡ rows_of part.tree
   pub revisions : kept.shelf.revisions ≡ part.revisions
   pub lists : ListsStandFor kept.grants part
+  pub no_tasks : part.tasks ≡ []
+  pub no_workflows : part.workflows ≡ []
+  pub no_desks : part.desk_pairs ≡ []
   pub time : kept.time ≡ part.time
   pub next_page : kept.next_page ≡ part.next_page
   pub next_revision : kept.next_revision ≡ part.next_revision

@@ -6,8 +6,8 @@ ghost use Rattle.std.specs.List.{list_any};
 ghost use Rattle.page_tree.specs.Rows.{comes_before};
 ghost use Rattle.site_model.specs.Rights.{permission_number};
 ghost use Rattle.site_model.specs.Users.{grant_key, is_grant};
-ghost use Rattle.site_model.specs.UserSound.{KeysRise};
-ghost use Rattle.grants.specs.Lists.{grants_with};
+ghost use Rattle.site_model.specs.Sound.{KeysRise};
+ghost use Rattle.flat_model.specs.People.{grants_with};
 ghost use Rattle.grants.specs.Places.{place_of, search_told, passes};
 
 use crate::Grants;

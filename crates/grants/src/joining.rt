@@ -4,8 +4,8 @@ ghost use Rattle.std.specs.Option.{option_map};
 ghost use Rattle.std.specs.List.{list_any};
 ghost use Rattle.page_tree.specs.Rows.{comes_before};
 ghost use Rattle.site_model.specs.Users.{member_key, is_membership};
-ghost use Rattle.site_model.specs.UserSound.{KeysRise};
-ghost use Rattle.grants.specs.Lists.{members_with};
+ghost use Rattle.site_model.specs.Sound.{KeysRise};
+ghost use Rattle.flat_model.specs.People.{members_with};
 ghost use Rattle.grants.specs.Places.{place_of, search_told, passes};
 
 use crate::Grants;

@@ -7,21 +7,23 @@ mod digest;
 mod fault;
 mod granting;
 mod joining;
+mod living;
 mod look_up;
 mod need;
 mod owning;
 mod part;
+mod passing;
 mod places;
 mod plan;
 mod right;
 mod spans;
 mod store;
-#[cfg(test)]
-mod tests;
 
 pub use fault::Fault;
+pub use flat_model::{Change, PeopleChange, TreeChange};
 pub use need::{Need, may};
 pub use part::TreePart;
-pub use plan::{Change, Plan};
+pub use passing::front;
+pub use plan::Plan;
 pub use right::Held;
 pub use store::Grants;

@@ -1,35 +1,34 @@
 //! What a caller needs for a command.
-ghost use Rattle.std.specs.Prelude.{◌≡◌, true, IsSome};
+ghost use Rattle.std.specs.Prelude.{◌≡◌, ◌==◌, ◌&&◌, ◌||◌, [], ◌∷◌, Some, None, IsSome, true, if◌then◌else◌};
 ghost use Rattle.page_tree.specs.Rows.{row_with};
-ghost use Rattle.site_types.specs.declared.permission.Permission.TheVariants.{Add, BulkDelete};
-ghost use Rattle.tree_model.specs.Places.{is_beside};
-ghost use Rattle.site_model.specs.Drafts.{draft_need};
+ghost use Rattle.site_types.specs.declared.permission.Permission.TheVariants.{Add, BulkDelete, Publish};
 ghost use Rattle.site_model.specs.World as worlds;
 ghost use Rattle.site_model.specs.Needs as needs;
 ghost use Rattle.site_model.specs.Rights as rights;
-ghost use Rattle.grants.specs.Standing.{IsReady};
-ghost use Rattle.grants.specs.Needs.{NamesPages, need_told, seen_held};
+ghost use Rattle.site_model.specs.Views as views;
+ghost use Rattle.tree_model.specs.Places.{is_beside, parent_at};
+ghost use Rattle.command_rows.specs.Naming.{NamesPages};
+ghost use Rattle.command_rows.specs.Needs.{AreNamed, seen_needs};
+ghost use Rattle.grants.specs.Standing.{StandsFor};
+ghost use Rattle.grants.specs.Needs.{NoModeration, is_by, need_told, seen_held};
 
 use crate::TreePart;
-use crate::owning::{has_kids, is_owner, owns_all};
-use crate::right::Held;
-use path_moves::new_parent;
-use site_types::{Command, PageId, Position, UserId};
-
-/// The need to hold add.
-const ADD: u8 = 1;
+use crate::granting::number;
+use crate::living::{any_live, is_live_page};
+use crate::owning::{body_at, has_kids, owns_all};
+use crate::right::{Held, holds};
+use command_rows::{NeedRow, need_row};
+use page_store::new_parent;
+use site_types::{Body, Command, PageId, Permission, Position, UserId};
 
 /// The need to hold change.
 const CHANGE: u8 = 2;
-
-/// The need to hold bulk delete.
-const BULK_DELETE: u8 = 4;
 
 /// The need to be a superuser.
 const SUPERUSER: u8 = 7;
 
 /// A need of a command that its caller does not meet: a permission from 1 to 6 (add, change, publish,
-/// bulk delete, lock, unlock), or 7, to be a superuser.
+/// bulk delete, lock, unlock), 7, to be a superuser, or 8, to be asked by the current task.
 #[derive(Clone, Copy, Debug, PartialEq, Eq)]
 pub struct Need {
     /// Its number.
@@ -38,58 +37,115 @@ pub struct Need {
 
 /// Whether a user may give a command, or the first need that the user does not meet.
 ///
-/// No page is live or moderated as yet, so that nobody needs to publish, and moderators have no rights
-/// of their own. It costs what is held at the pages that the command names, and for a deletion and a
-/// move by a user who holds add and not change a look at each page that goes.
+/// No page is moderated as yet, so that moderators have no rights of their own. It costs what is held
+/// at the pages that the command names, and for a deletion, a move or another slug a look at each page
+/// that goes along.
 pub fn may(part: &TreePart, user: UserId, command: &Command) -> Result<(), Need>
-    requires { (world : worlds.TreePart) × IsReady part.now world × NamesPages world.tree command.now }
-    ensures { (world : worlds.TreePart) → IsReady part.now world → NamesPages world.tree command.now
+    requires { (world : worlds.TreePart) × StandsFor part.now world × NamesPages world.tree command.now }
+    ensures { (world : worlds.TreePart) → StandsFor part.now world → NoModeration world.tree
         → result ≡ need_told (needs.may world user command.now) }
 {
-    match first_need(part, user, command) {
+    let row = need_row(command);
+    match first_need(part, user, &row) {
         Some(number) => Err(Need { number }),
         None => Ok(()),
     }
 }
 
 /// The number of the first need that a user does not meet, if there is one.
-fn first_need(part: &TreePart, user: UserId, command: &Command) -> Option<u8>
-    requires { (world : worlds.TreePart) × IsReady part.now world × NamesPages world.tree command.now }
-    ensures { (world : worlds.TreePart) → IsReady part.now world → NamesPages world.tree command.now
-        → result ≡ needs.may world user command.now }
+fn first_need(part: &TreePart, user: UserId, row: &NeedRow) -> Option<u8>
+    requires { AreNamed (λ page. IsSome (row_with page part.now.rows.pages)) row.now }
+    ensures { (world : worlds.TreePart) → StandsFor part.now world → NoModeration world.tree
+        → result ≡ needs.unmet world user (seen_needs world user row.now) }
 {
     if part.grants.is_superuser(user) {
         return None;
     }
-    match command {
-        Command::Create { parent, .. } => add_need(part, user, *parent),
-        Command::Move {
-            page,
-            target,
-            position,
-        } => move_need(part, user, *page, *target, *position),
-        Command::Delete { page } => delete_need(part, user, *page),
-        Command::SetSlug { page, .. } => slug_need(part, user, *page),
-        Command::DefineUser { .. } => Some(SUPERUSER),
-        Command::DefineGroup => Some(SUPERUSER),
-        Command::Member { .. } => Some(SUPERUSER),
-        Command::Grant { .. } => Some(SUPERUSER),
-        _ => None,
+    match row {
+        NeedRow::Nothing => None,
+        NeedRow::Superuser => Some(SUPERUSER),
+        NeedRow::Add(parent) => hold_need(part, user, Permission::Add, *parent),
+        NeedRow::Move(page, target, position) => {
+            move_need(part, user, *page, *target, *position)
+        }
+        NeedRow::Delete(page) => delete_need(part, user, *page),
+        NeedRow::Rename(page) => rename_need(part, user, *page),
+        NeedRow::Alias(source, parent) => alias_need(part, user, *source, *parent),
+        NeedRow::Detach(page) => detach_need(part, user, *page),
+        NeedRow::Edit(page) => edit_need(part, user, *page),
+        NeedRow::Hold(permission, page) => hold_need(part, user, *permission, *page),
+        NeedRow::Unlock(page) => unlock_need(part, user, *page),
+        NeedRow::Answer(_) => None,
+        NeedRow::Cancel(page) => cancel_need(part, user, *page),
     }
 }
 
-/// The need of a creation: to hold add at the parent.
-fn add_need(part: &TreePart, user: UserId, parent: PageId) -> Option<u8>
-    requires { IsSome (row_with parent part.now.rows.pages) }
-    ensures { (world : worlds.TreePart) → IsReady part.now world
-        → result ≡ needs.need_at world user Add parent }
+/// The need to hold a permission at a page.
+fn hold_need(part: &TreePart, user: UserId, permission: Permission, page: PageId) -> Option<u8>
+    requires { IsSome (row_with page part.now.rows.pages) }
+    ensures { (world : worlds.TreePart) → StandsFor part.now world
+        → result ≡ needs.need_at world user permission page }
 {
-    let held = part.grants.held(&part.rows, user, parent);
-    if held.add { None } else { Some(ADD) }
+    let held = part.grants.held(&part.rows, user, page);
+    if holds(held, permission) {
+        None
+    } else {
+        Some(number(permission))
+    }
 }
 
-/// The first need of a move that is not met: to take the page away, and to add it below its new
-/// parent.
+/// The need to hold publish at a page if another, or a page below that one, is live. Whether any is live is
+/// looked at only for a user who does not hold publish.
+fn live_need(part: &TreePart, user: UserId, page: PageId, at: PageId) -> Option<u8>
+    requires page_there { IsSome (row_with page part.now.rows.pages) }
+    requires at_there { IsSome (row_with at part.now.rows.pages) }
+    ensures { (world : worlds.TreePart) → StandsFor part.now world
+        → result ≡ needs.live_need world user page at }
+{
+    match hold_need(part, user, Permission::Publish, at) {
+        None => None,
+        Some(number) => where_live(any_live(&part.rows, page), number),
+    }
+}
+
+/// A need, if a page is live.
+fn where_live(is_live: bool, number: u8) -> Option<u8>
+    ensures { result ≡ (if is_live then Some number else None) }
+{
+    if is_live { Some(number) } else { None }
+}
+
+/// The first need to take a page away that is not met: to change it, or to own it and all below it; and to
+/// publish there if any of them is live.
+fn leave_need(part: &TreePart, user: UserId, page: PageId) -> Option<u8>
+    requires { IsSome (row_with page part.now.rows.pages) }
+    ensures { (world : worlds.TreePart) → StandsFor part.now world
+        → result ≡ needs.first_unmet (needs.take_need world user page
+        ∷ needs.live_need world user page page ∷ []) }
+{
+    let held = part.grants.held(&part.rows, user, page);
+    match take_need(part, held, user, page) {
+        Some(number) => Some(number),
+        None => live_need(part, user, page, page),
+    }
+}
+
+/// The first need to put a page below a parent that is not met: to add there, and to publish there if the page
+/// or one below it is live.
+fn arrive_need(part: &TreePart, user: UserId, page: PageId, parent: PageId) -> Option<u8>
+    requires page_there { IsSome (row_with page part.now.rows.pages) }
+    requires parent_there { IsSome (row_with parent part.now.rows.pages) }
+    ensures { (world : worlds.TreePart) → StandsFor part.now world
+        → result ≡ needs.first_unmet (needs.need_at world user Add parent
+        ∷ needs.live_need world user page parent ∷ []) }
+{
+    match hold_need(part, user, Permission::Add, parent) {
+        Some(number) => Some(number),
+        None => live_need(part, user, page, parent),
+    }
+}
+
+/// The first need of a move that is not met.
 fn move_need(
     part: &TreePart,
     user: UserId,
@@ -100,39 +156,35 @@ fn move_need(
     requires page_there { IsSome (row_with page part.now.rows.pages) }
     requires target_there { IsSome (row_with target part.now.rows.pages) }
     requires below_root { is_beside position ≡ true → target ≡ 1 → ⊥ }
-    ensures { (world : worlds.TreePart) → IsReady part.now world
+    ensures { (world : worlds.TreePart) → StandsFor part.now world
         → result ≡ needs.first_unmet (needs.move_needs world user page target position) }
 {
-    let own = part.grants.held(&part.rows, user, page);
-    match take_need(part, own, user, page) {
-        Some(need) => Some(need),
-        None => add_need(part, user, new_parent(&part.rows, target, position)),
+    match leave_need(part, user, page) {
+        Some(number) => Some(number),
+        None => arrive_need(part, user, page, new_parent(&part.rows, target, position)),
     }
 }
 
-/// The first need of a deletion that is not met: to take the page away, and to hold bulk delete where
-/// it has kids.
+/// The first need of a deletion that is not met.
 fn delete_need(part: &TreePart, user: UserId, page: PageId) -> Option<u8>
     requires { IsSome (row_with page part.now.rows.pages) }
-    ensures { (world : worlds.TreePart) → IsReady part.now world
+    ensures { (world : worlds.TreePart) → StandsFor part.now world
         → result ≡ needs.first_unmet (needs.delete_needs world user page) }
 {
-    let held = part.grants.held(&part.rows, user, page);
-    match take_need(part, held, user, page) {
-        Some(need) => Some(need),
-        None => bulk_need(part, held, user, page),
+    match leave_need(part, user, page) {
+        Some(number) => Some(number),
+        None => bulk_need(part, user, page),
     }
 }
 
 /// The need to hold bulk delete at a page that has kids.
-fn bulk_need(part: &TreePart, held: Held, user: UserId, page: PageId) -> Option<u8>
+fn bulk_need(part: &TreePart, user: UserId, page: PageId) -> Option<u8>
     requires { IsSome (row_with page part.now.rows.pages) }
-    ensures { (world : worlds.TreePart) → IsReady part.now world
-        → seen_held held ≡ rights.held world user page
-        → result ≡ needs.need_where (rights.has_kids world.tree page) world user BulkDelete page }
+    ensures { (world : worlds.TreePart) → StandsFor part.now world
+        → result ≡ needs.need_where (views.has_kids world.tree page) world user BulkDelete page }
 {
-    if has_kids(&part.rows, page) && !held.bulk_delete {
-        Some(BULK_DELETE)
+    if has_kids(&part.rows, page) {
+        hold_need(part, user, Permission::BulkDelete, page)
     } else {
         None
     }
@@ -142,7 +194,7 @@ fn bulk_need(part: &TreePart, held: Held, user: UserId, page: PageId) -> Option<
 /// it and every page below it.
 fn take_need(part: &TreePart, held: Held, user: UserId, page: PageId) -> Option<u8>
     requires { IsSome (row_with page part.now.rows.pages) }
-    ensures { (world : worlds.TreePart) → IsReady part.now world
+    ensures { (world : worlds.TreePart) → StandsFor part.now world
         → seen_held held ≡ rights.held world user page
         → result ≡ needs.take_need world user page }
 {
@@ -153,25 +205,119 @@ fn take_need(part: &TreePart, held: Held, user: UserId, page: PageId) -> Option<
     }
 }
 
-/// The need of another slug: to edit the page.
-fn slug_need(part: &TreePart, user: UserId, page: PageId) -> Option<u8>
+/// The first need of another slug that is not met.
+fn rename_need(part: &TreePart, user: UserId, page: PageId) -> Option<u8>
     requires { IsSome (row_with page part.now.rows.pages) }
-    ensures { (world : worlds.TreePart) → IsReady part.now world
+    ensures { (world : worlds.TreePart) → StandsFor part.now world → NoModeration world.tree
         → result ≡ needs.first_unmet (needs.slug_needs world user page) }
 {
-    let held = part.grants.held(&part.rows, user, page);
-    edit_need(part, held, user, page)
+    match edit_need(part, user, page) {
+        Some(number) => Some(number),
+        None => live_need(part, user, page, page),
+    }
 }
 
-/// The need to edit a page: to hold change at it, or to hold add at it and own it.
-fn edit_need(part: &TreePart, held: Held, user: UserId, page: PageId) -> Option<u8>
-    requires { IsSome (row_with page part.now.rows.pages) }
-    ensures { (world : worlds.TreePart) → IsReady part.now world
-        → seen_held held ≡ rights.held world user page → result ≡ draft_need world user page }
+/// The first need of an alias that is not met.
+fn alias_need(part: &TreePart, user: UserId, source: PageId, parent: PageId) -> Option<u8>
+    requires { IsSome (row_with parent part.now.rows.pages) }
+    ensures { (world : worlds.TreePart) → StandsFor part.now world
+        → result ≡ needs.first_unmet (needs.alias_needs world user source parent) }
 {
-    if held.change || held.add && is_owner(&part.rows, user, page) {
+    match hold_need(part, user, Permission::Add, parent) {
+        Some(number) => Some(number),
+        None => show_need(part, user, source, parent),
+    }
+}
+
+/// The need to hold publish at a page if another is live.
+fn show_need(part: &TreePart, user: UserId, page: PageId, at: PageId) -> Option<u8>
+    requires { IsSome (row_with at part.now.rows.pages) }
+    ensures { (world : worlds.TreePart) → StandsFor part.now world
+        → result ≡ needs.need_where (views.is_live_page world.tree page) world user Publish at }
+{
+    if is_live_page(&part.rows, page) {
+        hold_need(part, user, Permission::Publish, at)
+    } else {
+        None
+    }
+}
+
+/// The first need of making an alias a regular page that is not met.
+fn detach_need(part: &TreePart, user: UserId, page: PageId) -> Option<u8>
+    requires { IsSome (row_with page part.now.rows.pages) }
+    ensures { (world : worlds.TreePart) → StandsFor part.now world → NoModeration world.tree
+        → result ≡ needs.first_unmet (needs.detach_needs world user page) }
+{
+    match edit_need(part, user, page) {
+        Some(number) => Some(number),
+        None => show_need(part, user, page, page),
+    }
+}
+
+/// The need to edit a page that is not moderated: to hold change at it, or to hold add at it and own it.
+fn edit_need(part: &TreePart, user: UserId, page: PageId) -> Option<u8>
+    requires { IsSome (row_with page part.now.rows.pages) }
+    ensures { (world : worlds.TreePart) → StandsFor part.now world → NoModeration world.tree
+        → result ≡ needs.edit_need world user page }
+{
+    let held = part.grants.held(&part.rows, user, page);
+    let body = body_at(&part.rows, page);
+    if may_edit(held, &body, user) {
         None
     } else {
         Some(CHANGE)
+    }
+}
+
+/// Whether one who holds this may edit the page of which this is kept, if it is not moderated.
+fn may_edit(held: Held, body: &Body, user: UserId) -> bool
+    ensures { result ≡ held.change || (held.add && (body.now.owner == user)) }
+{
+    held.change || held.add && body.owner == user
+}
+
+/// The need to unlock a page, which whoever has locked it does not have.
+fn unlock_need(part: &TreePart, user: UserId, page: PageId) -> Option<u8>
+    requires { IsSome (row_with page part.now.rows.pages) }
+    ensures { (world : worlds.TreePart) → StandsFor part.now world
+        → result ≡ needs.first_unmet (needs.unlock_needs world user page) }
+{
+    let body = body_at(&part.rows, page);
+    if has_locked(&body, user) {
+        return None;
+    }
+    hold_need(part, user, Permission::Unlock, page)
+}
+
+/// The need to give a moderation up, which whoever has submitted it does not have.
+fn cancel_need(part: &TreePart, user: UserId, page: PageId) -> Option<u8>
+    requires { IsSome (row_with page part.now.rows.pages) }
+    ensures { (world : worlds.TreePart) → StandsFor part.now world
+        → result ≡ needs.first_unmet (needs.cancel_needs world user page) }
+{
+    let body = body_at(&part.rows, page);
+    if has_submitted(&body, user) {
+        return None;
+    }
+    hold_need(part, user, Permission::Publish, page)
+}
+
+/// Whether a user has locked the page of which this is kept.
+fn has_locked(body: &Body, user: UserId) -> bool
+    ensures { result ≡ is_by body.now.locked_by user }
+{
+    match body.locked_by {
+        Some(other) => other == user,
+        None => false,
+    }
+}
+
+/// Whether a user has submitted the moderation of the page of which this is kept.
+fn has_submitted(body: &Body, user: UserId) -> bool
+    ensures { result ≡ needs.has_submitted user (Some body.now) }
+{
+    match body.moderation {
+        Some(moderation) => moderation.by == user,
+        None => false,
     }
 }

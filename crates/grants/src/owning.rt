@@ -1,20 +1,20 @@
 //! Who owns a page and the pages below it, and whether there are any.
-ghost use Rattle.std.specs.Prelude.{◌≡◌, ◌==◌, ◌≤◌, ◌+◌, IsSome, false, length, take, drop, slice_get};
+ghost use Rattle.std.specs.Prelude.{◌≡◌, ◌==◌, ◌≤◌, ◌+◌, Some, IsSome, false, length, take, drop, slice_get};
 ghost use Rattle.std.specs.List.{list_all};
 ghost use Rattle.std.specs.Option.{option_map_or};
 ghost use Rattle.page_tree.specs.Tree.{Forest};
 ghost use Rattle.page_tree.specs.Rows.{rows_of, row_with};
 ghost use Rattle.site_types.specs.declared.body.Body.{Body as PageBody};
-ghost use Rattle.site_model.specs.Rights as rights;
+ghost use Rattle.site_model.specs.Views as views;
 
 use page_store::Rows;
-use site_types::{PageId, UserId};
+use site_types::{Body, PageId, UserId};
 
 /// Whether a user owns a page and every page below it. It costs a look at each of them.
 pub(crate) fn owns_all(rows: &Rows, user: UserId, page: PageId) -> bool
     requires { IsSome (row_with page rows.now.pages) }
     ensures { (tree : Forest PageBody) → rows.now.pages ≡ rows_of tree
-        → result ≡ rights.owns_all tree user page }
+        → result ≡ views.owns_all tree user page }
 {
     let _len = rows.len();
     let Some((place, count)) = rows.range_of(page) else {
@@ -53,24 +53,23 @@ fn owns_at(rows: &Rows, user: UserId, place: usize) -> bool
     row.body.owner == user
 }
 
-/// Whether a user owns a page. One look-up.
-pub(crate) fn is_owner(rows: &Rows, user: UserId, page: PageId) -> bool
+/// What is kept of a page. One look-up.
+pub(crate) fn body_at(rows: &Rows, page: PageId) -> Body
     requires { IsSome (row_with page rows.now.pages) }
     ensures { (tree : Forest PageBody) → rows.now.pages ≡ rows_of tree
-        → result ≡ rights.is_owner tree user page }
+        → views.body_of tree page ≡ Some result }
 {
-    let _len = rows.len();
     let Some(row) = rows.row(page) else {
         unreachable!();
     };
-    row.body.owner == user
+    row.body
 }
 
 /// Whether there are pages below a page. One look-up.
 pub(crate) fn has_kids(rows: &Rows, page: PageId) -> bool
     requires { IsSome (row_with page rows.now.pages) }
     ensures { (tree : Forest PageBody) → rows.now.pages ≡ rows_of tree
-        → result ≡ rights.has_kids tree page }
+        → result ≡ views.has_kids tree page }
 {
     let _len = rows.len();
     let Some(row) = rows.row(page) else {

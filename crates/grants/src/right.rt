@@ -6,13 +6,12 @@ ghost use Rattle.page_tree.specs.Rows.{rows_of, row_with};
 ghost use Rattle.page_tree.specs.Walk.{walk};
 ghost use Rattle.site_types.specs.declared.body.Body.{Body as PageBody};
 ghost use Rattle.site_model.specs.World.{TreePart};
-ghost use Rattle.site_model.specs.Sound.{IsSound};
 ghost use Rattle.site_model.specs.Rights.{held, gives, is_same};
 ghost use Rattle.site_model.specs.Users.{grant_key};
-ghost use Rattle.site_model.specs.UserSound.{KeysRise};
+ghost use Rattle.site_model.specs.Sound.{KeysRise};
 ghost use Rattle.grants.specs.Granted.{held_where, held_either};
 ghost use Rattle.grants.specs.Lists.{ListsStandFor};
-ghost use Rattle.grants.specs.Needs.{seen_held};
+ghost use Rattle.grants.specs.Needs.{is_held, seen_held};
 
 use crate::Grants;
 use crate::spans::{grants_to, members_of};
@@ -64,7 +63,7 @@ impl Grants {
     /// of as many steps as the number of grants has binary digits.
     pub fn held(&self, rows: &Rows, user: UserId, page: PageId) -> Held
         requires { IsSome (row_with page rows.now.pages) }
-        ensures { (part : TreePart) → rows.now.pages ≡ rows_of part.tree → IsSound part
+        ensures { (part : TreePart) → rows.now.pages ≡ rows_of part.tree
             → ListsStandFor self.now part → seen_held result ≡ held part user page }
     {
         if self.is_superuser(user) {
@@ -168,5 +167,19 @@ fn either(one: Held, other: Held) -> Held
         bulk_delete: one.bulk_delete | other.bulk_delete,
         lock: one.lock | other.lock,
         unlock: one.unlock | other.unlock,
+    }
+}
+
+/// Whether a permission is among those that are held.
+pub(crate) fn holds(held: Held, permission: Permission) -> bool
+    ensures { result ≡ is_held held permission }
+{
+    match permission {
+        Permission::Add => held.add,
+        Permission::Change => held.change,
+        Permission::Publish => held.publish,
+        Permission::BulkDelete => held.bulk_delete,
+        Permission::Lock => held.lock,
+        Permission::Unlock => held.unlock,
     }
 }

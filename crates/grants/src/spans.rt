@@ -1,6 +1,6 @@
 //! Where in their order the memberships of a user and the grants to a group stand.
 ghost use Rattle.std.specs.Prelude.{◌≡◌, ◌==◌, ◌&&◌, nat_lt, nat_le, filter, if◌then◌else◌};
-ghost use Rattle.site_model.specs.UserSound.{KeysRise};
+ghost use Rattle.site_model.specs.Sound.{KeysRise};
 ghost use Rattle.site_model.specs.Users.{member_key, grant_key};
 
 use site_types::{Grant, GroupId, Member, PageId, UserId};

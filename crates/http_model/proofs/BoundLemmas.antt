@@ -65,7 +65,7 @@ part_is_short bytes is = by_length (head_length (take MAX_HEAD bytes)) refl is
         let len = length-drop n bytes in let within = head-first bytes n found in
         omega arith
 
--- what is left behind a whole request that a head makes is no longer than what stood there
+-- what is left after a whole request that a head makes is no longer than what stood there
 whole_of_body : (head : RequestHead) (rest left : List ℕ) (request : Request) (n : ℕ) →
     front_of_body head rest n ≡ whole request left → length left ≤ length rest
 whole_of_body head rest left request n is =

@@ -275,7 +275,7 @@ blank_is_refused =
     let same : 4 ≡ length (print_request head ++ []) = ap length read.0.1 in
     absurd (omega (arith, same, len, ap length (append-nil (print_request head)))))
 
--- where a head ends: behind the first LF that a line end follows
+-- where a head ends: after the first LF that a line end follows
 heads_end : (head_length (codes "a\n\nb") ≡ Some 3) × (head_length (codes "a\r\n\r\n\n") ≡ Some 5)
     × (head_length (codes "a\n\r\n") ≡ Some 4) × (head_length (codes "\r\na\n\r") ≡ None)
 heads_end = (refl, refl, refl, refl)

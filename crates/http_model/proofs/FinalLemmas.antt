@@ -1,4 +1,4 @@
--- What is final stays with more bytes behind it.
+-- What is final stays with more bytes after it.
 use Rattle.std.proofs.Common.{◌≡◌, ◌≤◌, ◌-◌, ℕ, Bool, true, false, List, ◌++◌, length, take, drop, Option, Some, None, cond, nat_lt, inl, inr, refl, sym, ap, ◌∙◌, subst, length-append, arith}
 use Rattle.std.proofs.lemmas.Bool.Decides.{nat_tests}
 use Rattle.std.proofs.lemmas.List.{take-append-le, drop-append-le}
@@ -9,7 +9,7 @@ use Rattle.http_model.specs.Requests.{Front, whole, part, refused, head_length, 
 use Rattle.http_model.proofs.HeadLemmas.{head_length-stays, take-append}
 use Rattle.http_model.proofs.FrontLemmas.{head-fits}
 
--- the front with more bytes behind it
+-- the front with more bytes after it
 abbrev pub grown : Front → List ℕ → Front
 grown (whole request rest) more = whole request (rest ++ more)
 grown part more = part
@@ -52,7 +52,7 @@ front_of_body_stays head rest more n final =
         ∙ (ap (λ body. whole (request_of head body) (drop n (rest ++ more))) bodies
         ∙ ap (λ bytes. whole (request_of head (take n rest)) bytes) rests))
 
--- what a head makes stays with more bytes behind it
+-- what a head makes stays with more bytes after it
 front_of_head_stays : (head : RequestHead) (rest more : List ℕ) →
     IsFinal (front_of_head head rest) →
     grown (front_of_head head rest) more ≡ front_of_head head (rest ++ more)
@@ -69,7 +69,7 @@ front_of_head_stays head rest more final =
     by_coding true None final = refl
     by_coding false n final = refl
 
--- what is read stays with more bytes behind it
+-- what is read stays with more bytes after it
 read_front_stays : (bytes rest more : List ℕ) (front : Front) → IsFinal front →
     IsReadFront bytes rest front → IsReadFront bytes (rest ++ more) (grown front more)
 read_front_stays bytes rest more front final (inl (head, read, is)) =
@@ -82,7 +82,7 @@ read_front_stays bytes rest more front final (inl (head, read, is)) =
 read_front_stays bytes rest more front final (inr (none, is)) =
     inr (none, ap (λ x. grown x more) is)
 
--- what is final stays with more bytes behind it
+-- what is final stays with more bytes after it
 pub final_stays : (bytes more : List ℕ) (front : Front) → IsFinal front → IsFront bytes front →
     IsFront (bytes ++ more) (grown front more)
 unfolding IsFront

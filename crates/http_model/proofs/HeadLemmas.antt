@@ -1,4 +1,4 @@
--- Where a head ends: with more bytes behind, and how long it is.
+-- Where a head ends: with more bytes after, and how long it is.
 use Rattle.std.proofs.Common.{◌≡◌, ◌≤◌, ◌-◌, ℕ, suc, zero, Bool, true, false, List, [], ◌∷◌, ◌++◌, length, take, Option, Some, None, cond, eqb, ◌&&◌, refl, sym, ap, ◌∙◌, arith}
 use Rattle.httparse.specs.Ascii.{line_feed, carriage_return}
 use Rattle.http_model.specs.Requests.{begins_with_lf, line_end_length, or_else, one_more, head_length}
@@ -25,7 +25,7 @@ line_end_length-within (b ∷ bytes) n is = by_first (eqb b line_feed)
         by_second false is = absurd (cc is)
     by_first false false bytes is = absurd (cc is)
 
--- behind two bytes or more nothing changes the line end at the front
+-- after two bytes or more nothing changes the line end at the front
 pub line_end_length-append : (bytes more : List ℕ) → 2 ≤ length bytes →
     line_end_length (bytes ++ more) ≡ line_end_length bytes
 line_end_length-append [] more two = absurd (omega arith)
@@ -80,7 +80,7 @@ head_length-within (b ∷ bytes) n is =
     one_more_within (eqb b line_feed) (line_end_length bytes) (head_length bytes) n (length bytes)
     (line_end_length-within bytes) (head_length-within bytes) is
 
--- the end of a head stays with more bytes behind it
+-- the end of a head stays with more bytes after it
 pub head_length-stays : (bytes more : List ℕ) (n : ℕ) → head_length bytes ≡ Some n →
     head_length (bytes ++ more) ≡ Some n
 head_length-stays [] more n is = absurd (cc is)

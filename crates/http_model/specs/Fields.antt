@@ -49,7 +49,7 @@ body_length headers = length_in (values_named CONTENT_LENGTH_NAME.now headers)
 abbrev pub is_empty : List (List ℕ) → Bool
 is_empty values = length values == 0
 
--- no coding of the body is told
+-- no field names a coding of the body
 abbrev pub is_plain : List Header → Bool
 is_plain headers = is_empty (values_named TRANSFER_ENCODING_NAME.now headers)
 
@@ -63,13 +63,13 @@ abbrev pub is_token : List ℕ → Bool
 is_token bytes =
     nat_lt 0 (length bytes) && (nat_le (length bytes) MAX_TOKEN && list_all is_ascii_graphic bytes)
 
--- the token behind one or more spaces, and nothing else
+-- the token after one or more spaces, and nothing else
 abbrev pub token_behind : List ℕ → Option (List ℕ)
 token_behind bytes =
     let token = skip_spaces bytes in
     if nat_lt (length token) (length bytes) && is_token token then Some token else None
 
--- the token in a value: behind the word `Bearer` in any case
+-- the token in a value: after the word `Bearer` in any case
 unfoldable pub token_in : List ℕ → Option (List ℕ)
 token_in value =
     if is_same_word (take 6 value) BEARER.now then token_behind (drop 6 value) else None

@@ -8,12 +8,12 @@ abbrev pub OneFront : Type 0
 OneFront = (bytes : List ℕ) (front other : Front) → IsFront bytes front → IsFront bytes other →
     front ≡ other
 
--- a whole request stays so with more bytes, which come behind what followed it
+-- a whole request stays so with more bytes, which come after what followed it
 abbrev pub WholeStays : Type 0
 WholeStays = (bytes more rest : List ℕ) (request : Request) → IsFront bytes (whole request rest) →
     IsFront (bytes ++ more) (whole request (rest ++ more))
 
--- what is refused stays so with more bytes behind it
+-- what is refused stays so with more bytes after it
 abbrev pub RefusedStays : Type 0
 RefusedStays = (bytes more : List ℕ) (status : ℕ) → IsFront bytes (refused status) →
     IsFront (bytes ++ more) (refused status)

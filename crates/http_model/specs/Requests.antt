@@ -19,7 +19,7 @@ pub record Request : Type 0 where
   pub body : List ℕ
   pub close : Bool
 
--- What stands at the front of bytes: a whole request and the bytes behind it; less than one, which
+-- What stands at the front of bytes: a whole request and the bytes after it; less than one, which
 -- more bytes may complete; or what is refused with a status.
 pub data Front : Type 0 where
   whole : (request : Request) (rest : List ℕ) → Front
@@ -49,7 +49,7 @@ abbrev pub one_more : Option ℕ → Option ℕ
 one_more (Some n) = Some (suc n)
 one_more None = None
 
--- The length of the head at the front: it ends behind the first LF that a line end follows,
+-- The length of the head at the front: it ends after the first LF that a line end follows,
 -- together with that line end.
 abbrev pub head_length : List ℕ → Option ℕ
 head_length [] = None
@@ -86,7 +86,7 @@ request_of head body =
       close = closes head.minor (headers_of head);
     }
 
--- The front that a head and the bytes behind it make, where the body has so many bytes: 413 where
+-- The front that a head and the bytes after it make, where the body has so many bytes: 413 where
 -- there are too many, a part where some are missing, else a whole request.
 abbrev pub front_of_body : RequestHead → List ℕ → ℕ → Front
 front_of_body head rest n =
@@ -101,7 +101,7 @@ abbrev pub front_of_length : RequestHead → List ℕ → Option ℕ → Front
 front_of_length head rest None = refused 400
 front_of_length head rest (Some n) = front_of_body head rest n
 
--- the front that a head and the bytes behind it make; one that tells of codings is refused with 400
+-- the front that a head and the bytes after it make; one that tells of codings is refused with 400
 unfoldable pub front_of_head : RequestHead → List ℕ → Front
 front_of_head head rest =
     if is_plain (headers_of head)
@@ -116,7 +116,7 @@ IsReadAs bytes head = ReadsRequest bytes head [] × (length head.fields ≤ MAX_
 abbrev pub IsUnreadable : List ℕ → Type 0
 IsUnreadable bytes = (head : RequestHead) → IsReadAs bytes head → ⊥
 
--- the front by the bytes of the head and those behind it: what the head makes, or 400 where it is
+-- the front by the bytes of the head and those after it: what the head makes, or 400 where it is
 -- none of the grammar
 abbrev pub IsReadFront : List ℕ → List ℕ → Front → Type 0
 IsReadFront bytes rest front =
@@ -132,7 +132,7 @@ abbrev pub IsLinedFront : List ℕ → List ℕ → Front → Bool → Type 0
 IsLinedFront bytes rest front true = front ≡ refused 431
 IsLinedFront bytes rest front false = IsReadFront bytes rest front
 
--- the front where the bytes of the head and those behind it are known
+-- the front where the bytes of the head and those after it are known
 abbrev pub IsHeadFront : List ℕ → List ℕ → Front → Type 0
 IsHeadFront bytes rest front =
     IsLinedFront bytes rest front (nat_lt MAX_LINE_ENDS (line_ends bytes))

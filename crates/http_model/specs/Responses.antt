@@ -7,7 +7,7 @@ use Rattle.http_model.specs.declared.status.StatusCode.{StatusCode}
 use Rattle.http_model.specs.declared.status.StatusCode.TheVariants.{Ok, BadRequest, Unauthorized, Forbidden, NotFound, MethodNotAllowed, Conflict, ContentTooLarge, HeaderFieldsTooLarge, ServerError, NotImplemented, Unavailable}
 use Rattle.http_model.specs.declared.words.TheConstants.{VERSION, CONTENT_LENGTH, CONTENT_TYPE, WWW_AUTHENTICATE, ALLOW_GET, ALLOW_POST, CONNECTION_CLOSE, LINE_END}
 
--- A response: its status, its body, and the one method that the route takes, where that is told.
+-- A response: its status, its body, and the one method that the route takes, if it names one.
 pub record Response : Type 0 where
   pub status : StatusCode
   pub body : List ℕ

@@ -7,12 +7,12 @@ pub fn one_front()
     ensures { OneFront }
 {}
 
-/// A whole request stays so with more bytes behind it.
+/// A whole request stays so with more bytes after it.
 pub fn whole_stays()
     ensures { WholeStays }
 {}
 
-/// What is refused stays so with more bytes behind it.
+/// What is refused stays so with more bytes after it.
 pub fn refused_stays()
     ensures { RefusedStays }
 {}

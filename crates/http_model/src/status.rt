@@ -52,7 +52,7 @@ impl StatusCode {
         }
     }
 
-    /// The phrase behind the number in a status line.
+    /// The phrase after the number in a status line.
     pub fn phrase(&self) -> &'static [u8]
         ensures { result.now ≡ phrase self.now }
     {

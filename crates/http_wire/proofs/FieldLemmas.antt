@@ -78,7 +78,7 @@ pub asks-other : (header : Header) → is_same_word header.0 CONNECTION_NAME.now
 asks-other header other =
     ap (list_any has_close) (values_named-other CONNECTION_NAME.now header other)
 
--- the fields from a place on ask for closing where the first of them does, or one behind it
+-- the fields from a place on ask for closing where the first of them does, or one after it
 pub asks-drop : (head : List ℕ) (fields : List HeaderSpan) (i : ℕ) (d : HeaderSpan) →
     i < length fields →
     asks_for_closing (map (header_bytes head) (drop i fields))
@@ -89,7 +89,7 @@ asks-drop head fields i d inside =
     ∙ asks-append (header_bytes head (get_or fields i d) ∷ [])
     (map (header_bytes head) (drop (i + 1) fields))
 
--- behind the last field nothing asks for closing
+-- after the last field nothing asks for closing
 pub asks-end : (head : List ℕ) (fields : List HeaderSpan) (i : ℕ) → length fields ≤ i →
     asks_for_closing (map (header_bytes head) (drop i fields)) ≡ false
 asks-end head fields i past =

@@ -19,7 +19,7 @@ knows_nothing bytes = record {
   short = λ more few. absurd (omega arith);
 }
 
--- what a reader remembers of bytes it remembers of them with more behind
+-- what a reader remembers of bytes it remembers of them with more after
 pub knows_more : (scan : Scan) (bytes more : List ℕ) → Knows scan bytes → Knows scan (bytes ++ more)
 knows_more scan bytes more knows = record {
   within =
@@ -87,7 +87,7 @@ refused_without_head bytes none many =
     let test : nat_lt (length bytes) MAX_HEAD ≡ false = grind (arith, nat_tests) in
     subst (IsFront bytes) (ap (λ t. cond t part (refused 431)) test) (front_without_head bytes none)
 
--- the front by the bytes of the head and those behind it
+-- the front by the bytes of the head and those after it
 pub front_with_head : (bytes : List ℕ) (n : ℕ) (front : Front) →
     head_length (take MAX_HEAD bytes) ≡ Some n →
     IsHeadFront (take n bytes) (drop n bytes) front → IsFront bytes front
@@ -95,7 +95,7 @@ unfolding IsFront
 front_with_head bytes n front found is =
     let P : Option ℕ → Type 0 = IsFrontBy bytes front in subst P (sym found) is
 
--- the head in the first bytes stays with more bytes behind them
+-- the head in the first bytes stays with more bytes after them
 head-stays : (bytes more : List ℕ) (n : ℕ) → head_length (take MAX_HEAD bytes) ≡ Some n →
     head_length (take MAX_HEAD (bytes ++ more)) ≡ Some n
 head-stays bytes more n found =
@@ -117,7 +117,7 @@ part_of_body bytes n head found fronts few =
     test)
     (fronts rest))
 
--- the same of the bytes with more behind them
+-- the same of the bytes with more after them
 part_of_body-more : (bytes more : List ℕ) (n : ℕ) (head : Head) →
     head_length (take MAX_HEAD bytes) ≡ Some n →
     ((rest : List ℕ) → IsHeadFront (take n bytes) rest (front_behind head rest)) →
@@ -141,7 +141,7 @@ knows_head bytes n head found fronts = record {
   short = λ more few. part_of_body-more bytes more n head found fronts few;
 }
   where
-    -- the end of the head is at most three bytes behind that place
+    -- the end of the head is at most three bytes after that place
     by_size : (window : List ℕ) → head_length window ≡ Some n →
         head_length window ≡ counted_from (n - 3) (head_length (drop (n - 3) window))
     by_size window found' = by_test (nat_lt 2 n) refl

@@ -13,7 +13,7 @@ pub counted_from-more : (i : ℕ) (found : Option ℕ) →
 counted_from-more i None = refl
 counted_from-more i (Some n) = let same : i + suc n ≡ (i + 1) + n = omega arith in ap Some same
 
--- behind a byte that is no LF the search goes on
+-- after a byte that is no LF the search goes on
 pub head_length-other : (bytes : List ℕ) (i : ℕ) → i < length bytes →
     eqb (get_or bytes i 0) line_feed ≡ false →
     counted_from i (head_length (drop i bytes))
@@ -25,7 +25,7 @@ head_length-other bytes i inside other =
     (head_length (drop (i + 1) bytes))))) other
     ∙ counted_from-more i (head_length (drop (i + 1) bytes)))
 
--- behind an LF that no line end follows the search goes on
+-- after an LF that no line end follows the search goes on
 pub head_length-no_end : (bytes : List ℕ) (i : ℕ) → i < length bytes →
     eqb (get_or bytes i 0) line_feed ≡ true → line_end_length (drop (i + 1) bytes) ≡ None →
     counted_from i (head_length (drop i bytes))
@@ -38,7 +38,7 @@ head_length-no_end bytes i inside feed none =
     ∙ (ap (λ e. counted_from i (one_more (or_else e (head_length (drop (i + 1) bytes))))) none
     ∙ counted_from-more i (head_length (drop (i + 1) bytes))))
 
--- behind an LF that a line end follows the head ends
+-- after an LF that a line end follows the head ends
 pub head_length-end : (bytes : List ℕ) (i n : ℕ) → i < length bytes →
     eqb (get_or bytes i 0) line_feed ≡ true → line_end_length (drop (i + 1) bytes) ≡ Some n →
     counted_from i (head_length (drop i bytes)) ≡ Some (i + 1 + n)
@@ -89,7 +89,7 @@ unscanned (b ∷ bytes) more none =
     by_tests (eqb b line_feed) (line_end_length bytes) (head_length bytes) none in
     by_size (nat_lt 1 (length bytes)) refl none'.1 (unscanned bytes more none'.0)
   where
-    -- where no head ends, none ends behind the first byte, nor at it
+    -- where no head ends, none ends after the first byte, nor at it
     by_tests : (lf : Bool) (e h : Option ℕ) → one_more (cond lf (or_else e h) h) ≡ None →
         (h ≡ None) × (lf ≡ true → e ≡ None)
     by_tests true (Some n) h is = absurd (cc is)
@@ -98,7 +98,7 @@ unscanned (b ∷ bytes) more none =
     by_tests false e (Some n) is = absurd (cc is)
     by_tests false e None is = (refl, λ t. absurd (cc t))
 
-    -- where no line end follows an LF, the head ends behind
+    -- where no line end follows an LF, the head ends after
     goes_on : (lf : Bool) (e h : Option ℕ) → (lf ≡ true → e ≡ None) →
         one_more (cond lf (or_else e h) h) ≡ one_more h
     goes_on true e h none = ap (λ x. one_more (or_else x h)) (none refl)
@@ -140,7 +140,7 @@ found_from (suc k) (b ∷ bytes) n is far =
     ∙ (ap one_more (found_from k bytes behind.1 behind.2 (let same = behind.3 in omega arith))
     ∙ one_more-counted_from k (head_length (drop k bytes)))
   where
-    -- the end is far enough, so it stands behind the first byte
+    -- the end is far enough, so it stands after the first byte
     passes : (lf : Bool) (e h : Option ℕ) → line_end_length bytes ≡ e →
         one_more (cond lf (or_else e h) h) ≡ Some n →
         (one_more (cond lf (or_else e h) h) ≡ one_more h) × (m : ℕ) × (h ≡ Some m) × (suc m ≡ n)

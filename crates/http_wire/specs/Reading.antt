@@ -35,7 +35,7 @@ pub record Scan : Type 0 where
   pub scanned : ℕ
   pub wanted : ℕ
 
--- What it remembers holds of these bytes with any others behind them: no head ends before the place
+-- What it remembers holds of these bytes with any others after them: no head ends before the place
 -- from which it is looked for, and with fewer bytes than are waited for they are a part.
 pub record Knows (scan : Scan) (bytes : List ℕ) : Type 0 where
   pub within : scan.scanned ≤ length (take MAX_HEAD bytes)
@@ -48,7 +48,7 @@ pub record Knows (scan : Scan) (bytes : List ℕ) : Type 0 where
 abbrev pub KnowsNothing : Scan → Type 0
 KnowsNothing scan = (bytes : List ℕ) → Knows scan bytes
 
--- what it remembers after an answer: behind a part, of the same bytes with more behind them; and
+-- what it remembers after an answer: after a part, of the same bytes with more after them; and
 -- else nothing
 abbrev pub KnowsAfter : List ℕ → Scan → Next → Type 0
 KnowsAfter bytes scan (Whole request n) = KnowsNothing scan
@@ -66,14 +66,14 @@ with_body head body =
       close = head.close;
     }
 
--- the front that a head and the bytes behind it make
+-- the front that a head and the bytes after it make
 abbrev pub front_behind : Head → List ℕ → Front
 front_behind head rest =
     if nat_lt (length rest) head.length
     then part
     else whole (with_body head (take head.length rest)) (drop head.length rest)
 
--- the front that a head or a status makes of the bytes behind
+-- the front that a head or a status makes of the bytes after
 abbrev pub MakesFront : Result Head ℕ → (List ℕ → Front) → Type 0
 MakesFront (Ok head) front = (rest : List ℕ) → front rest ≡ front_behind head rest
 MakesFront (Err status) front = (rest : List ℕ) → front rest ≡ refused status
@@ -89,7 +89,7 @@ request_of_parts name target minor headers body =
       close = closes minor headers;
     }
 
--- the front that the parts of a head and the bytes behind it make, for a length of the body
+-- the front that the parts of a head and the bytes after it make, for a length of the body
 abbrev pub front_of_size : List ℕ → List ℕ → ℕ → List Header → List ℕ → Option ℕ → Front
 front_of_size name target minor headers rest None = refused 400
 front_of_size name target minor headers rest (Some n) =
@@ -99,14 +99,14 @@ front_of_size name target minor headers rest (Some n) =
     then part
     else whole (request_of_parts name target minor headers (take n rest)) (drop n rest))
 
--- the front that the parts of a head and the bytes behind it make
+-- the front that the parts of a head and the bytes after it make
 abbrev pub front_of_parts : List ℕ → List ℕ → ℕ → List Header → List ℕ → Front
 front_of_parts name target minor headers rest =
     if is_plain headers
     then front_of_size name target minor headers rest (body_length headers)
     else refused 400
 
--- what is read of a head, or its status, makes the front, whatever bytes are behind
+-- what is read of a head, or its status, makes the front, whatever bytes are after
 abbrev pub HasHeadFront : List ℕ → Result Head ℕ → Type 0
 HasHeadFront bytes (Ok head) = (rest : List ℕ) → IsHeadFront bytes rest (front_behind head rest)
 HasHeadFront bytes (Err status) = (rest : List ℕ) → IsHeadFront bytes rest (refused status)

@@ -95,7 +95,7 @@ pub fn body_length(head: &[u8], fields: &[HeaderSpan]) -> BodyLength
     }
 }
 
-/// Whether no coding of the body is told.
+/// Whether no field names a coding of the body.
 pub fn is_plain(head: &[u8], fields: &[HeaderSpan]) -> bool
     requires { All (IsHeaderWithin (length head.now)) fields.now }
     ensures { result ≡ is_plain (map (header_bytes head.now) fields.now) }
@@ -126,7 +126,7 @@ fn are_graphic(bytes: &[u8]) -> bool
     bytes.iter().all(|b| b.is_ascii_graphic())
 }
 
-/// The token behind one or more spaces.
+/// The token after one or more spaces.
 fn token_behind(bytes: &[u8]) -> Option<&[u8]>
     ensures { option_copied result ≡ token_behind bytes.now }
 {

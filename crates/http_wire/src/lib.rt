@@ -7,8 +7,6 @@ mod next;
 mod reader;
 mod response;
 mod scan;
-#[cfg(test)]
-mod tests;
 mod words;
 
 pub use http_model::{Allow, Method, StatusCode};

@@ -123,7 +123,7 @@ impl RequestReader {
     }
 
     /// What stands at the front of the bytes, which are those of the last call and maybe more
-    /// behind them where that answered `Partial`, and any others else.
+    /// after them where that answered `Partial`, and any others else.
     ///
     /// The end of a head is looked for among the bytes that are new. A head is parsed where its end
     /// has come and, where its body had not come yet, once more with the body. Nothing is copied.

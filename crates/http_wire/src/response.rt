@@ -18,7 +18,7 @@ pub struct Response {
     pub status: StatusCode,
     /// The body.
     pub body: Bytes,
-    /// The one method that the route takes, which is told at 405.
+    /// The one method that the route takes, which a 405 names.
     pub allow: Option<Allow>,
 }
 

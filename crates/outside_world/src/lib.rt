@@ -4,6 +4,7 @@
 mod calls;
 mod clock;
 mod fault;
+mod file_disk;
 mod memory_clock;
 mod memory_sink;
 mod memory_source;
@@ -14,6 +15,7 @@ mod source;
 
 pub use clock::{Clock, LAST_MOMENT};
 pub use fault::Failed;
+pub use file_disk::FileDisk;
 pub use memory_clock::MemoryClock;
 pub use memory_sink::MemorySink;
 pub use memory_source::MemorySource;
@@ -21,6 +23,3 @@ pub use pieces_source::PiecesSource;
 pub use real::{StreamSink, StreamSource, SystemClock};
 pub use sink::{Sink, write_all};
 pub use source::Source;
-
-#[cfg(test)]
-mod tests;

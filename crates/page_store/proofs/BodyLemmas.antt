@@ -91,6 +91,7 @@ body_kept stored later order kids pages id body kept stores = record {
       refl) (λ row. refl) stores kept.texts (λ page is. record {
         path_is = is.path_is;
         depth_is = is.depth_is;
+        not_counted = is.not_counted;
       });
   named = λ parent slug. kept.named parent slug ∙ sym (same_found id body (λ row. is_parent parent
       row.parent && bytes_eq row.slug slug) (λ row. refl) pages);

@@ -142,7 +142,7 @@ module _ (stored later : List (ℕ × StoredRow)) (order : List ℕ) (kids more_
           (nat_eq id) stored))) IsStored
       by true u = text
       by false true = let h = kept.texts p in let own : IsStored parent = rw found_parent at h in
-          record { path_is = own.path_is; depth_is = own.depth_is }
+          record { path_is = own.path_is; depth_is = own.depth_is; not_counted = own.not_counted }
       by false false = kept.texts id
 
   -- each kid is found by its slug
@@ -193,7 +193,7 @@ pub insert_kept : (stored mid later : List (ℕ
     × StoredRow)) (order : List ℕ) (kids more_kids : List (KidKey
     × ℕ)) (pages : List Page) (new : StoredRow) (p : ℕ)
     → IsKept stored order kids pages → IsNewRow pages new.row →
-    parent_id (steps_of new.row.path) pages ≡ Some p → new.parent ≡ Some p → IsPageId new.row.id
+    parent_id (steps_of new.row.path) pages ≡ Some p → new.parent ≡ Some p → IsPageId new.row.id → new.counted ≡ false
     → ((id : ℕ) → lookup (nat_eq id) mid ≡ cond (nat_eq p id) (option_map kid_added (lookup (nat_eq
     p) stored)) (lookup (nat_eq id) stored))
     → ((id : ℕ) → lookup (nat_eq id) later ≡ cond (nat_eq new.row.id id) (Some new) (lookup (nat_eq id) mid))
@@ -201,7 +201,7 @@ pub insert_kept : (stored mid later : List (ℕ
     (Some new.row.id) (lookup (key_eq key) kids))
     → IsKept later (insert order (leading (λ row. comes_before row.path (steps_of new.row.path))
     pages) new.row.id) more_kids (with_row (seen new) pages)
-insert_kept stored mid later order kids more_kids pages new p kept is found parent fits raises
+insert_kept stored mid later order kids more_kids pages new p kept is found parent fits fresh raises
     stores names = by (lookup (nat_eq p) stored) refl
   where
     can : CanBeAdded pages (seen new) p
@@ -224,9 +224,9 @@ insert_kept stored mid later order kids more_kids pages new p kept is found pare
         absurd (parent_is_page (steps_of new.row.path) pages p p (other_ids p pages none) found refl)
     by (Some above) e =
         kept-with_row stored later order kids more_kids pages new above p kept can (record {
-          path_is
-              = is.path_is;
+          path_is = is.path_is;
           depth_is = is.depth_is;
+          not_counted = fresh;
         }) e
         (λ id. stores id ∙ ap (λ o. cond (nat_eq new.row.id id) (Some new) o) (raises id ∙ ap (λ o.
         cond (nat_eq p id) (option_map kid_added o) (lookup (nat_eq id) stored)) e)) names

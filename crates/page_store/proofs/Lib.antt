@@ -8,13 +8,18 @@ pub mod KeptLemmas
 pub mod RootLemmas
 pub mod RangeLemmas
 pub mod WindowLemmas
+pub mod KidRanges
 pub mod KidLemmas
 pub mod ChangeLemmas
 pub mod BodyLemmas
+pub mod SlugRows
 pub mod SlugLemmas
 pub mod CutLemmas
+pub mod TakenLemmas
+pub mod WithoutLemmas
 pub mod RemoveLemmas
 pub mod ListingLemmas
+pub mod RewriteLemmas
 pub mod MoveLemmas
 pub mod MapLemmas
 pub mod SettleLemmas
@@ -23,3 +28,4 @@ pub mod SettledLemmas
 pub mod MovedLemmas
 pub mod RelabelLemmas
 pub mod ReadyLemmas
+pub mod ParentLemmas

@@ -34,30 +34,19 @@ ready_rows stored order kids top rows is can named =
       settled_rows = ap settled same;
     }
 
-module _ (stored mid later : List (ℕ × StoredRow)) (order moved shown : List ℕ) (kids : List (KidKey
-    × ℕ)) (pages : List Page) (from n to : ℕ)
-    (paths urls shown_paths shown_urls : List (ℕ × List ℕ)) (top : Option ℕ) where
+module _ (stored later : List (ℕ × StoredRow)) (order moved shown : List ℕ) (kids : List (KidKey
+    × ℕ)) (pages : List Page) (from n to : ℕ) (paths urls : List (ℕ × List ℕ)) (top : Option ℕ) where
   -- after the rows are moved and all listings put what is kept is ready
   pub ready : IsKept stored order kids (rows_seen stored order) → rows_seen stored order ≡ pages →
       ArePages (relabelled_rows from n to paths urls pages) →
       KeepParents (first_moved from n pages) pages (relabelled_rows from n to paths urls pages) →
       shown ≡ order → top ≡ slice_get (take (from + n - from) (drop from shown)) 0 →
-      moved ≡ items_moved from n to order → shown_paths ≡ paths → shown_urls ≡ urls →
-      ((q : ℕ) → lookup (nat_eq q) mid ≡ option_map (listed_put path_put (lookup (nat_eq q)
-      shown_paths)) (lookup (nat_eq q) stored)) →
-      ((q : ℕ) → lookup (nat_eq q) later ≡ option_map (listed_put url_put (lookup (nat_eq q)
-      shown_urls)) (lookup (nat_eq q) mid)) →
+      moved ≡ items_moved from n to order →
+      ((q : ℕ) → lookup (nat_eq q) later ≡ option_map (listed_put url_put (lookup (nat_eq q) urls))
+      (option_map (listed_put path_put (lookup (nat_eq q) paths)) (lookup (nat_eq q) stored))) →
       IsReady later moved kids top (relabelled_rows from n to paths urls pages)
-  ready kept seen are keeps order_is top_is moves paths_are urls_are puts gives =
+  ready kept seen are keeps order_is top_is moves puts =
       let kept_pages : IsKept stored order kids pages = subst (IsKept stored order kids) seen kept in
-      let puts_paths : (q : ℕ) → lookup (nat_eq q) mid ≡ option_map (listed_put path_put (lookup (nat_eq
-      q) paths)) (lookup (nat_eq q) stored) =
-      λ q. puts q ∙ ap (λ (ps : List (ℕ × List ℕ)). option_map (listed_put path_put (lookup (nat_eq q)
-      ps)) (lookup (nat_eq q) stored)) paths_are in
-      let gives_urls : (q : ℕ) → lookup (nat_eq q) later ≡ option_map (listed_put url_put (lookup (nat_eq
-      q) urls)) (lookup (nat_eq q) mid) =
-      λ q. gives q ∙ ap (λ (ps : List (ℕ × List ℕ)). option_map (listed_put url_put (lookup (nat_eq q)
-      ps)) (lookup (nat_eq q) mid)) urls_are in
       let size : from + n - from ≡ n = omega arith in
       let first : top ≡ first_moved from n pages =
       top_is ∙ ap (λ (k : ℕ). slice_get (take k (drop from shown)) 0) size
@@ -65,8 +54,8 @@ module _ (stored mid later : List (ℕ × StoredRow)) (order moved shown : List 
       ∙ top_moved from n order pages kept_pages.ids in
       ready_rows later moved kids top (listed stored order kids pages kept_pages from n to paths urls)
       (subst (λ (ids : List ℕ). IsListed later ids (listed stored order kids pages kept_pages from n to
-      paths urls)) (sym moves) (is_listed stored order kids pages kept_pages from n to paths urls are mid
-      later puts_paths gives_urls))
+      paths urls)) (sym moves) (is_listed stored order kids pages kept_pages from n to paths urls are
+      later puts))
       (subst (λ (o : Option ℕ). CanSettle o (listed stored order kids pages kept_pages from n to paths
       urls)) (sym first) (can_settle stored order kids pages kept_pages from n to paths urls are keeps))
       (named_listed stored order kids pages kept_pages from n to paths urls)

@@ -125,96 +125,96 @@ module _ (stored : List (ℕ × StoredRow)) (order : List ℕ) (kids : List (Kid
         (reparented listed) listed)) (map (reparented listed) listed) are.paths)) (found_moved q ∙ ap
         (option_map (relisted paths urls)) found)
 
-    module _ (mid later : List (ℕ × StoredRow))
-        (puts : (q : ℕ) → lookup (nat_eq q) mid ≡ option_map (listed_put path_put (lookup (nat_eq q)
-        paths)) (lookup (nat_eq q) stored))
-        (gives : (q : ℕ) → lookup (nat_eq q) later ≡ option_map (listed_put url_put (lookup (nat_eq q)
-        urls)) (lookup (nat_eq q) mid)) where
-      -- what is kept of a page is seen with its listings
-      seen_put : (page : StoredRow) (path url : Option (List ℕ)) →
-          IsPath (unwrap_or path (steps_of page.row.path)) →
-          seen (listed_put url_put url (listed_put path_put path page)) ≡ (let row = seen page in record
-          row { path = unwrap_or path row.path; url = unwrap_or url row.url })
-      seen_put page None None is = refl
-      seen_put page None (Some url) is = refl
-      seen_put page (Some path) None is =
-          ap (λ (steps : List ℕ). (let row = seen page in let out : Page = record row { path = steps } in
-          out)) (steps_of-path_text path is.steps)
-      seen_put page (Some path) (Some url) is =
-          ap (λ (steps : List ℕ). (let row = seen page in let out : Page = record row {
-            path = steps;
-            url
-                = url;
-          } in out)) (steps_of-path_text path is.steps)
+    module _ (later : List (ℕ × StoredRow))
+        (later_is : (q : ℕ) → lookup (nat_eq q) later ≡ option_map (listed_put url_put (lookup (nat_eq q)
+        urls)) (option_map (listed_put path_put (lookup (nat_eq q) paths)) (lookup (nat_eq q) stored)))
+      where
+        -- what is kept of a page is seen with its listings
+        seen_put : (page : StoredRow) (path url : Option (List ℕ)) →
+            IsPath (unwrap_or path (steps_of page.row.path)) →
+            seen (listed_put url_put url (listed_put path_put path page)) ≡ (let row = seen page in record
+            row { path = unwrap_or path row.path; url = unwrap_or url row.url })
+        seen_put page None None is = refl
+        seen_put page None (Some url) is = refl
+        seen_put page (Some path) None is =
+            ap (λ (steps : List ℕ). (let row = seen page in let out : Page = record row { path = steps } in
+            out)) (steps_of-path_text path is.steps)
+        seen_put page (Some path) (Some url) is =
+            ap (λ (steps : List ℕ). (let row = seen page in let out : Page = record row {
+              path = steps;
+              url
+                  = url;
+            } in out)) (steps_of-path_text path is.steps)
 
-      -- its text is that of a path
-      stored_put : (page : StoredRow) (path url : Option (List ℕ)) →
-          IsPath (unwrap_or path (steps_of page.row.path)) → IsStored page →
-          IsStored (listed_put url_put url (listed_put path_put path page))
-      stored_put page None None is own = own
-      stored_put page None (Some url) is own = record { path_is = own.path_is; depth_is = own.depth_is }
-      stored_put page (Some path) None is own = record {
-        path_is = IsPathText-path_text path is;
-        depth_is = ap length (sym (steps_of-path_text path is.steps));
-      }
-      stored_put page (Some path) (Some url) is own = record {
-        path_is = IsPathText-path_text path is;
-        depth_is = ap length (sym (steps_of-path_text path is.steps));
-      }
+        -- its text is that of a path
+        stored_put : (page : StoredRow) (path url : Option (List ℕ)) →
+            IsPath (unwrap_or path (steps_of page.row.path)) → IsStored page →
+            IsStored (listed_put url_put url (listed_put path_put path page))
+        stored_put page None None is own = own
+        stored_put page None (Some url) is own = record {
+          path_is = own.path_is;
+          depth_is = own.depth_is;
+          not_counted = own.not_counted;
+        }
+        stored_put page (Some path) None is own = record {
+          path_is = IsPathText-path_text path is;
+          depth_is = ap length (sym (steps_of-path_text path is.steps));
+          not_counted = own.not_counted;
+        }
+        stored_put page (Some path) (Some url) is own = record {
+          path_is = IsPathText-path_text path is;
+          depth_is = ap length (sym (steps_of-path_text path is.steps));
+          not_counted = own.not_counted;
+        }
 
-      -- what is kept of a page then
-      later_is : (q : ℕ) → lookup (nat_eq q) later ≡ option_map (listed_put url_put (lookup (nat_eq q)
-          urls)) (option_map (listed_put path_put (lookup (nat_eq q) paths)) (lookup (nat_eq q) stored))
-      later_is q = gives q ∙ ap (option_map (listed_put url_put (lookup (nat_eq q) urls))) (puts q)
+        -- the path of a page that is kept
+        path_kept : (q : ℕ) (page : StoredRow) → lookup (nat_eq q) stored ≡ Some page →
+            IsPath (unwrap_or (lookup (nat_eq q) paths) (steps_of page.row.path))
+        path_kept q page is =
+            subst (λ (id : ℕ). IsPath (unwrap_or (lookup (nat_eq id) paths) (steps_of page.row.path)))
+            (own_id stored order kids pages kept q page is) (path_listed q (seen page) (kept.found q ∙ ap
+            (option_map seen) is))
 
-      -- the path of a page that is kept
-      path_kept : (q : ℕ) (page : StoredRow) → lookup (nat_eq q) stored ≡ Some page →
-          IsPath (unwrap_or (lookup (nat_eq q) paths) (steps_of page.row.path))
-      path_kept q page is =
-          subst (λ (id : ℕ). IsPath (unwrap_or (lookup (nat_eq id) paths) (steps_of page.row.path)))
-          (own_id stored order kids pages kept q page is) (path_listed q (seen page) (kept.found q ∙ ap
-          (option_map seen) is))
+        -- each listed row is found by its id
+        found_later : (q : ℕ) → row_with q listed ≡ option_map seen (lookup (nat_eq q) later)
+        found_later q =
+            found_moved q ∙ ap (option_map (relisted paths urls)) (kept.found q)
+            ∙ by (lookup (nat_eq q) stored) refl ∙ ap (option_map seen) (sym (later_is q))
+          where
+            by : (o : Option StoredRow) → lookup (nat_eq q) stored ≡ o →
+                option_map (relisted paths urls) (option_map seen o) ≡ option_map seen (option_map
+                (listed_put url_put (lookup (nat_eq q) urls)) (option_map (listed_put path_put (lookup
+                (nat_eq q) paths)) o))
+            by None e = refl
+            by (Some page) e =
+                ap (λ (id : ℕ). (let row = seen page in let out : Page = record row {
+                  path = unwrap_or
+                      (lookup (nat_eq id) paths) row.path;
+                  url = unwrap_or (lookup (nat_eq id) urls) row.url;
+                } in
+                Some out)) (own_id stored order kids pages kept q page e)
+                ∙ ap Some (sym (seen_put page (lookup (nat_eq q) paths) (lookup (nat_eq q) urls) (path_kept
+                q page e)))
 
-      -- each listed row is found by its id
-      found_later : (q : ℕ) → row_with q listed ≡ option_map seen (lookup (nat_eq q) later)
-      found_later q =
-          found_moved q ∙ ap (option_map (relisted paths urls)) (kept.found q)
-          ∙ by (lookup (nat_eq q) stored) refl ∙ ap (option_map seen) (sym (later_is q))
-        where
-          by : (o : Option StoredRow) → lookup (nat_eq q) stored ≡ o →
-              option_map (relisted paths urls) (option_map seen o) ≡ option_map seen (option_map
-              (listed_put url_put (lookup (nat_eq q) urls)) (option_map (listed_put path_put (lookup
-              (nat_eq q) paths)) o))
-          by None e = refl
-          by (Some page) e =
-              ap (λ (id : ℕ). (let row = seen page in let out : Page = record row {
-                path = unwrap_or
-                    (lookup (nat_eq id) paths) row.path;
-                url = unwrap_or (lookup (nat_eq id) urls) row.url;
-              } in
-              Some out)) (own_id stored order kids pages kept q page e)
-              ∙ ap Some (sym (seen_put page (lookup (nat_eq q) paths) (lookup (nat_eq q) urls) (path_kept
-              q page e)))
+        -- each row that is kept has the text of a path
+        texts_later : (q : ℕ) → IfSome (lookup (nat_eq q) later) IsStored
+        texts_later q = rw (later_is q) (by (lookup (nat_eq q) stored) refl (kept.texts q))
+          where
+            by : (o : Option StoredRow) → lookup (nat_eq q) stored ≡ o → IfSome o IsStored →
+                IfSome (option_map (listed_put url_put (lookup (nat_eq q) urls)) (option_map (listed_put
+                path_put (lookup (nat_eq q) paths)) o)) IsStored
+            by None e own = tt
+            by (Some page) e own = stored_put page (lookup (nat_eq q) paths) (lookup (nat_eq q) urls)
+                (path_kept q page e) own
 
-      -- each row that is kept has the text of a path
-      texts_later : (q : ℕ) → IfSome (lookup (nat_eq q) later) IsStored
-      texts_later q = rw (later_is q) (by (lookup (nat_eq q) stored) refl (kept.texts q))
-        where
-          by : (o : Option StoredRow) → lookup (nat_eq q) stored ≡ o → IfSome o IsStored →
-              IfSome (option_map (listed_put url_put (lookup (nat_eq q) urls)) (option_map (listed_put
-              path_put (lookup (nat_eq q) paths)) o)) IsStored
-          by None e own = tt
-          by (Some page) e own = stored_put page (lookup (nat_eq q) paths) (lookup (nat_eq q) urls)
-              (path_kept q page e) own
-
-      -- what is kept stands for the listed rows
-      pub is_listed : IsListed later (items_moved from n to order) listed
-      is_listed = record {
-        ids = ids_listed;
-        found = found_later;
-        texts = texts_later;
-        are_pages = are;
-      }
+        -- what is kept stands for the listed rows
+        pub is_listed : IsListed later (items_moved from n to order) listed
+        is_listed = record {
+          ids = ids_listed;
+          found = found_later;
+          texts = texts_later;
+          are_pages = are;
+        }
 
     -- the listed rows may be settled
     pub can_settle : KeepParents (first_moved from n pages) pages (settled listed) →

@@ -45,6 +45,7 @@ stored_root : (page : StoredRow) → IsRootPage page → IsStored page
 stored_root page is = record {
   path_is = rw is.path_is (IsPathText-path_text (1 ∷ []) root_is_path);
   depth_is = rw (is.depth_is, is.path_is, steps_of-path_text (1 ∷ []) root_is_path.steps) refl;
+  not_counted = is.not_counted;
 }
 
 -- the tests for the root's id

@@ -231,6 +231,7 @@ module _ (stored : List (ℕ × StoredRow)) (order : List ℕ) (rows : List Page
                       r. refl) adds texts_less (λ page own. record {
                         path_is = own.path_is;
                         depth_is = own.depth_is;
+                        not_counted = own.not_counted;
                       });
                   named = named_now;
                   are_pages = subst ArePages is listed.are_pages;
@@ -251,6 +252,7 @@ module _ (stored : List (ℕ × StoredRow)) (order : List ℕ) (rows : List Page
                     page. refl) (λ r. refl) puts listed.texts (λ page own. record {
                       path_is = own.path_is;
                       depth_is = own.depth_is;
+                      not_counted = own.not_counted;
                     })
 
                 found_less : (q : ℕ) → row_with q (changed old.parent without_kid (changed top (under to)
@@ -263,6 +265,7 @@ module _ (stored : List (ℕ × StoredRow)) (order : List ℕ) (rows : List Page
                     kid_taken without_kid (λ page. refl) (λ r. refl) takes texts_mid (λ page own. record {
                       path_is = own.path_is;
                       depth_is = own.depth_is;
+                      not_counted = own.not_counted;
                     })
 
                 named_now : (q : ℕ) (text : List ℕ) → lookup (key_eq (kid_key q text)) more ≡ kid_named q

@@ -1,5 +1,5 @@
 -- How the store keeps its rows: by id, with the ids in path order, and the kids of each page by slug.
-use Rattle.std.specs.Prelude.{◌≡◌, ℕ, ◌+◌, Bool, nat_eq, ◌&&◌, Option, Some, None, List, [], ◌∷◌, map, length}
+use Rattle.std.specs.Prelude.{◌≡◌, ℕ, ◌+◌, Bool, false, nat_eq, ◌&&◌, Option, Some, None, List, [], ◌∷◌, map, length}
 use Rattle.std.specs.Option.{option_map, IfSome}
 use Rattle.std.specs.Str.{bytes_eq}
 use Rattle.std.specs.Map.{lookup}
@@ -38,10 +38,12 @@ key_eq one other = nat_eq one.parent other.parent && bytes_eq one.slug other.slu
 abbrev pub kid_added : StoredRow → StoredRow
 kid_added stored = record stored { row = record stored.row { numchild = stored.row.numchild + 1 } }
 
--- a row that is kept has the text of a path, and the number of its steps beside it
+-- a row that is kept has the text of a path and the number of its steps beside it, and no step is
+-- counted for it
 pub record IsStored (stored : StoredRow) : Type 0 where
   pub path_is : IsPathText stored.row.path
   pub depth_is : stored.row.depth ≡ length (steps_of stored.row.path)
+  pub not_counted : stored.counted ≡ false
 
 -- The rows by id, the ids in their order and the kids by slug stand for these rows.
 pub record IsKept (stored : List (ℕ × StoredRow)) (order : List ℕ) (kids : List (KidKey
@@ -57,6 +59,7 @@ pub record IsKept (stored : List (ℕ × StoredRow)) (order : List ℕ) (kids : 
 pub record IsRootPage (page : StoredRow) : Type 0 where
   pub id_is : page.row.id ≡ 1
   pub no_parent : page.parent ≡ None
+  pub not_counted : page.counted ≡ false
   pub path_is : page.row.path ≡ path_text (1 ∷ [])
   pub depth_is : page.row.depth ≡ 1
   pub url_is : page.url ≡ SLASH ∷ []

@@ -6,3 +6,4 @@ pub mod KidWalk
 pub mod Changes
 pub mod Relabelling
 pub mod Settling
+pub mod Rewriting

@@ -1,6 +1,6 @@
 -- What a relabelling leaves: rows moved to another place, pages with other paths and other URLs.
-use Rattle.std.specs.Prelude.{◌≡◌, ℕ, ◌+◌, nat_eq, Option, Some, IsSome, unwrap_or}
-use Rattle.std.specs.Prelude.{List, ◌++◌, length, map, take, drop, slice_get}
+use Rattle.std.specs.Prelude.{◌≡◌, ℕ, ◌+◌, not, is_some, nat_eq, Option, Some, IsSome, unwrap_or}
+use Rattle.std.specs.Prelude.{List, ◌++◌, length, map, filter, take, drop, slice_get}
 use Rattle.std.specs.Option.{option_map}
 use Rattle.std.specs.List.{AllByRecursion, IsDistinct}
 use Rattle.std.specs.Map.{lookup}
@@ -43,6 +43,12 @@ relabelled_rows from n to paths urls rows =
 pub record AreListed (pages : List Page) (pairs : List (ℕ × List ℕ)) : Type 0 where
   pub there : AllByRecursion (λ (pair : ℕ × List ℕ). IsSome (row_with pair.0 pages)) pairs
   pub once : IsDistinct nat_eq (map (λ (pair : ℕ × List ℕ). pair.0) pairs)
+
+-- how many pages are listed in either list, one that is in both counted once
+abbrev pub listed_in_either : List (ℕ × List ℕ) → List (ℕ × List ℕ) → ℕ
+listed_in_either paths urls =
+    length paths
+    + length (filter (λ (pair : ℕ × List ℕ). not (is_some (lookup (nat_eq pair.0) paths))) urls)
 
 -- the first of n pages from a place on, where n is not 0
 abbrev pub first_moved : ℕ → ℕ → List Page → Option ℕ

@@ -70,7 +70,7 @@ fn put_slug(stored: &mut IndexMap<PageId, StoredRow>, id: PageId, slug: Slug)
 }
 
 /// The key of a page that has a parent.
-pub(crate) fn key_of(stored: &IndexMap<PageId, StoredRow>, id: PageId) -> KidKey
+fn key_of(stored: &IndexMap<PageId, StoredRow>, id: PageId) -> KidKey
     requires { IsSome (own_key (lookup (nat_eq id) stored.now.entries)) }
     ensures { own_key (lookup (nat_eq id) stored.now.entries) ≡ Some result }
 {

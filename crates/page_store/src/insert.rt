@@ -20,12 +20,14 @@ use std::hash::Hash;
 use step_path::{MAX_TEXT, Path};
 
 impl Rows {
-    /// Makes room for `more` rows, so that as many can be put in without memory.
+    /// Makes room for `more` rows, so that as many can be put in without memory. The room never
+    /// shrinks, if memory runs out either.
     ///
-    /// It costs nothing where the room is there, and else a copy of what is kept.
+    /// It costs nothing if the room is there, and otherwise a copy of what is kept.
     pub fn reserve(&mut self, more: usize) -> Result<(), NoMemory>
         ensures pages { self.new.pages ≡ self.old.pages }
         ensures ok { OnOk result (more ≤ self.new.spare) }
+        ensures spare { self.old.spare ≤ self.new.spare }
     {
         self.stored.reserve(more)?;
         self.kids.reserve(more)?;
@@ -56,6 +58,7 @@ impl Rows {
             row,
             url,
             parent: Some(parent),
+            counted: false,
         };
         add_kid(&mut self.stored, parent);
         put(&mut self.stored, id, stored);

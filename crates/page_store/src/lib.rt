@@ -5,11 +5,13 @@ mod change;
 mod insert;
 mod kids;
 mod look_up;
+mod parent;
 mod plan;
 mod range;
 mod relabel;
 mod relabels;
 mod remove;
+mod rewrite;
 mod root;
 mod rows;
 mod search;
@@ -18,10 +20,8 @@ mod stored;
 mod urls;
 
 pub use kids::Kids;
+pub use parent::{is_beside, new_parent};
 pub use plan::MovePlan;
 pub use relabels::Relabels;
 pub use rows::Rows;
 pub use urls::Urls;
-
-#[cfg(test)]
-mod tests;

@@ -1,5 +1,5 @@
 //! Taking a page out with all below it.
-ghost use Rattle.std.specs.Prelude.{◌≡◌, ℕ, ◌-◌, ◌++◌, ◌≤◌, IsSome, None, nat_eq, if◌then◌else◌};
+ghost use Rattle.std.specs.Prelude.{◌≡◌, ℕ, ◌-◌, ◌++◌, ◌≤◌, Some, IsSome, None, nat_eq, if◌then◌else◌};
 ghost use Rattle.std.specs.Prelude.{take, drop, vec_len, vec_capacity};
 ghost use Rattle.std.specs.Option.{option_map};
 ghost use Rattle.std.specs.List.{list_any};
@@ -7,10 +7,10 @@ ghost use Rattle.std.specs.Map.{lookup};
 ghost use Rattle.indexmap.specs.IndexMap.{spare};
 ghost use Rattle.page_tree.specs.Rows.{row_with};
 ghost use Rattle.page_store.specs.Kept.{key_eq};
-ghost use Rattle.page_store.specs.Changes.{without_range, is_key_of, kid_taken};
+ghost use Rattle.page_store.specs.Changes.{without_range, own_key, is_key_of, kid_taken};
 
 use crate::Rows;
-use crate::change::{find_key, key_of, take_out};
+use crate::change::take_out;
 use crate::stored::{KidKey, StoredRow};
 use indexmap::IndexMap;
 use site_types::PageId;
@@ -18,8 +18,8 @@ use site_types::PageId;
 impl Rows {
     /// Takes a page out with all below it, and lowers the child count of its parent by one.
     ///
-    /// It takes three look-ups for each page that goes, and moves four bytes for each page behind
-    /// them.
+    /// It takes two look-ups for each page that goes, copies no slug, and moves four bytes for each
+    /// page after them.
     pub fn remove_range(&mut self, id: PageId)
         requires there { IsSome (row_with id self.old.pages) }
         requires below_root { id ≡ 1 → ⊥ }
@@ -31,52 +31,79 @@ impl Rows {
             unreachable!();
         };
         let end = place + count;
-        let key = key_of(&self.stored, id);
-        let ids = &self.order[place..end];
-        take_keys(&mut self.kids, &self.stored, ids);
-        take_rows(&mut self.stored, ids);
-        take_kid(&mut self.stored, key.parent);
+        let parent = parent_in(&self.stored, id);
+        take_pages(&mut self.stored, &mut self.kids, &self.order[place..end]);
+        take_kid(&mut self.stored, parent);
         cut(&mut self.order, place, end);
     }
 }
 
-/// Takes the keys of these pages out.
-fn take_keys(
+/// Takes out what is kept of these pages, and their keys.
+fn take_pages(
+    stored: &mut IndexMap<PageId, StoredRow>,
     kids: &mut IndexMap<KidKey, PageId>,
-    stored: &IndexMap<PageId, StoredRow>,
     ids: &[PageId],
 )
     ensures keys { (key : KidKey) → lookup (key_eq key) kids.new.entries
-        ≡ (if list_any (λ id. is_key_of key (lookup (nat_eq id) stored.now.entries)) ids.now then None
+        ≡ (if list_any (λ id. is_key_of key (lookup (nat_eq id) stored.old.entries)) ids.now then None
         else lookup (key_eq key) kids.old.entries) }
-    ensures spare { spare kids.old ≤ spare kids.new }
+    ensures rows { (id : ℕ) → lookup (nat_eq id) stored.new.entries
+        ≡ (if list_any (λ taken. nat_eq taken id) ids.now then None
+        else lookup (nat_eq id) stored.old.entries) }
+    ensures spare_rows { spare stored.old ≤ spare stored.new }
+    ensures spare_kids { spare kids.old ≤ spare kids.new }
 {
     for id in ids {
-        take_key(kids, stored, *id);
+        take_page(stored, kids, *id);
     }
 }
 
-/// Takes the key of a page out, where it has one.
-fn take_key(kids: &mut IndexMap<KidKey, PageId>, stored: &IndexMap<PageId, StoredRow>, id: PageId)
+/// Takes out what is kept of a page, and its key, if it has one.
+fn take_page(
+    stored: &mut IndexMap<PageId, StoredRow>,
+    kids: &mut IndexMap<KidKey, PageId>,
+    id: PageId,
+)
     ensures keys { (key : KidKey) → lookup (key_eq key) kids.new.entries
-        ≡ (if is_key_of key (lookup (nat_eq id) stored.now.entries) then None
+        ≡ (if is_key_of key (lookup (nat_eq id) stored.old.entries) then None
         else lookup (key_eq key) kids.old.entries) }
+    ensures rows { (other : ℕ) → lookup (nat_eq other) stored.new.entries
+        ≡ (if nat_eq id other then None else lookup (nat_eq other) stored.old.entries) }
+    ensures spare_rows { spare stored.old ≤ spare stored.new }
+    ensures spare_kids { spare kids.old ≤ spare kids.new }
+{
+    if let Some(page) = stored.swap_remove(&id) {
+        take_key(kids, page);
+    }
+}
+
+/// Takes out the key of what was kept of a page, if it has one. The slug is moved, not copied.
+fn take_key(kids: &mut IndexMap<KidKey, PageId>, page: StoredRow)
+    ensures keys { (key : KidKey) → lookup (key_eq key) kids.new.entries
+        ≡ (if is_key_of key (Some page) then None else lookup (key_eq key) kids.old.entries) }
     ensures spare { spare kids.old ≤ spare kids.new }
 {
-    if let Some(key) = find_key(stored, id) {
+    if let Some(parent) = page.parent {
+        let key = KidKey {
+            parent,
+            slug: page.row.slug,
+        };
         take_out(kids, &key);
     }
 }
 
-/// Takes out what is kept of these pages.
-fn take_rows(stored: &mut IndexMap<PageId, StoredRow>, ids: &[PageId])
-    ensures rows { (id : ℕ) → lookup (nat_eq id) stored.new.entries
-        ≡ (if list_any (λ taken. nat_eq taken id) ids.now then None
-        else lookup (nat_eq id) stored.old.entries) }
-    ensures spare { spare stored.old ≤ spare stored.new }
+/// The page above one that has one.
+fn parent_in(stored: &IndexMap<PageId, StoredRow>, id: PageId) -> PageId
+    requires { IsSome (own_key (lookup (nat_eq id) stored.now.entries)) }
+    ensures { option_map (λ key. key.parent) (own_key (lookup (nat_eq id) stored.now.entries))
+        ≡ Some result }
 {
-    for id in ids {
-        take_out(stored, id);
+    let Some(page) = stored.get(&id) else {
+        unreachable!();
+    };
+    match page.parent {
+        Some(parent) => parent,
+        None => unreachable!(),
     }
 }
 

@@ -48,6 +48,7 @@ fn root_page(alloc: Global) -> Result<StoredRow, NoMemory>
         },
         url: Url::from_vec(url),
         parent: None,
+        counted: false,
     })
 }
 

@@ -10,6 +10,8 @@ pub(crate) struct StoredRow {
     pub(crate) url: Url,
     /// The page above it; the root has none.
     pub(crate) parent: Option<PageId>,
+    /// Whether the relabelling at hand has counted a step for the page; between calls it has not.
+    pub(crate) counted: bool,
 }
 
 /// A page below a parent, by its slug.

@@ -12,4 +12,5 @@ either_has_room false f g hf hg = hg
 pub HasRoom-without : (id : ℕ) (f : Forest ℕ) → HasRoom f → HasRoom (without id f)
 HasRoom-without id bare h = tt
 HasRoom-without id (grown i step slug body kids rest) h =
-    either_has_room (nat_eq i id) _ _ h.2 (h.0, HasRoom-without id kids h.1, HasRoom-without id rest h.2)
+    either_has_room (nat_eq i id) _ _ h.2
+    (h.0, HasRoom-without id kids h.1, HasRoom-without id rest h.2)

@@ -7,33 +7,9 @@ use Rattle.page_tree.specs.Tree.{Forest, bare, grown, AllIds, ids_of, HasDistinc
 use Rattle.page_tree.specs.Walk.{Visit, SLASH, walk, kid_count, first_walk, extended, path_of, url_of}
 use Rattle.page_tree.specs.Walking.{slugs_along}
 use Rattle.page_tree.specs.Rows.{Row, rows_below, rows_of, child_url}
+use Rattle.page_tree.proofs.ListLemmas.{all_weaker, all_both, all_append, all_parts, all_always}
 use Rattle.page_tree.proofs.RowLemmas.{AllIds-ids_of}
 use Rattle.page_tree.proofs.WalkLemmas.{walk-absent}
-
--- what holds of each element where something stronger does
-all_weaker : {X : Type 0} (P Q : X → Type 0) (xs : List X) → ((x : X) → P x → Q x) → AllByRecursion P xs → AllByRecursion Q xs
-all_weaker P Q [] w all = tt
-all_weaker P Q (x ∷ xs) w all = (w x all.0, all_weaker P Q xs w all.1)
-
--- what two facts of each element give
-all_both : {X : Type 0} (P Q R : X → Type 0) (xs : List X) → ((x : X) → P x → Q x → R x) → AllByRecursion P xs → AllByRecursion Q xs → AllByRecursion R xs
-all_both P Q R [] w p q = tt
-all_both P Q R (x ∷ xs) w p q = (w x p.0 q.0, all_both P Q R xs w p.1 q.1)
-
--- what holds of each element of two lists
-all_append : {X : Type 0} (P : X → Type 0) (xs ys : List X) → AllByRecursion P xs → AllByRecursion P ys → AllByRecursion P (xs ++ ys)
-all_append P [] ys p q = q
-all_append P (x ∷ xs) ys p q = (p.0, all_append P xs ys p.1 q)
-
--- what holds of each element of two lists together holds of each of either
-all_parts : {X : Type 0} (P : X → Type 0) (xs ys : List X) → AllByRecursion P (xs ++ ys) → AllByRecursion P xs × AllByRecursion P ys
-all_parts P [] ys p = (tt, p)
-all_parts P (x ∷ xs) ys p = let more = all_parts P xs ys p.1 in ((p.0, more.0), more.1)
-
--- what always holds, holds of each element
-all_always : {X : Type 0} (P : X → Type 0) (xs : List X) → ((x : X) → P x) → AllByRecursion P xs
-all_always P [] w = tt
-all_always P (x ∷ xs) w = (w x, all_always P xs w)
 
 -- numbers that a test tells apart are not equal
 apart_by_test : (x y : ℕ) → nat_eq x y ≡ false → y ≡ x → ⊥
@@ -55,7 +31,9 @@ distinct_parts (x ∷ xs) ys h =
     record {
       front = (heads.0, more.front);
       back = more.back;
-      apart = all_both (λ y. nat_eq x y ≡ false) (λ y. AllByRecursion (λ z. z ≡ y → ⊥) xs) (λ y. AllByRecursion (λ z. z ≡ y → ⊥) (x ∷ xs)) ys
+      apart =
+          all_both (λ y. nat_eq x y ≡ false) (λ y. AllByRecursion (λ z. z ≡ y → ⊥) xs)
+          (λ y. AllByRecursion (λ z. z ≡ y → ⊥) (x ∷ xs)) ys
           (λ y t rest. ((λ e. apart_by_test x y t (sym e)), rest)) heads.1 more.apart;
     }
 
@@ -64,7 +42,8 @@ module _ {Body : Type 0} where
   abbrev AreApart : Forest Body → Type 0
   AreApart bare = Unit {0}
   AreApart (grown i step slug body kids rest) =
-      (AllIds (λ j. j ≡ i → ⊥) kids × AllIds (λ j. j ≡ i → ⊥) rest × AllIds (λ j. AllIds (λ k. k ≡ j → ⊥) kids) rest)
+      (AllIds (λ j. j ≡ i → ⊥) kids × AllIds (λ j. j ≡ i → ⊥) rest
+      × AllIds (λ j. AllIds (λ k. k ≡ j → ⊥) kids) rest)
       × AreApart kids
       × AreApart rest
 
@@ -73,20 +52,33 @@ module _ {Body : Type 0} where
   unfolding IsDistinct
   AreApart-distinct bare h = tt
   AreApart-distinct (grown i step slug body kids rest) h =
-      let others = all_weaker (λ j. nat_eq i j ≡ false) (λ j. j ≡ i → ⊥) (ids_of kids ++ ids_of rest) (apart_by_test i) h.0 in
+      let others =
+      all_weaker (λ j. nat_eq i j ≡ false) (λ j. j ≡ i → ⊥) (ids_of kids ++ ids_of rest)
+      (apart_by_test i) h.0 in
       let sides = all_parts (λ j. j ≡ i → ⊥) (ids_of kids) (ids_of rest) others in
       let parts = distinct_parts (ids_of kids) (ids_of rest) h.1 in
-      let between = all_weaker (λ j. AllByRecursion (λ k. k ≡ j → ⊥) (ids_of kids)) (λ j. AllIds (λ k. k ≡ j → ⊥) kids) (ids_of rest) (λ j all. AllIds-ids_of (λ k. k ≡ j → ⊥) kids all) parts.apart in (
-        (AllIds-ids_of (λ j. j ≡ i → ⊥) kids sides.0, AllIds-ids_of (λ j. j ≡ i → ⊥) rest sides.1, AllIds-ids_of (λ j. AllIds (λ k. k ≡ j → ⊥) kids) rest between),
+      let between =
+      all_weaker (λ j. AllByRecursion (λ k. k ≡ j → ⊥) (ids_of kids))
+      (λ j. AllIds (λ k. k ≡ j → ⊥) kids) (ids_of rest)
+      (λ j all. AllIds-ids_of (λ k. k ≡ j → ⊥) kids all) parts.apart in (
+        (
+          AllIds-ids_of (λ j. j ≡ i → ⊥) kids sides.0,
+          AllIds-ids_of (λ j. j ≡ i → ⊥) rest sides.1,
+          AllIds-ids_of (λ j. AllIds (λ k. k ≡ j → ⊥) kids) rest between,
+        ),
         AreApart-distinct kids parts.front,
         AreApart-distinct rest parts.back,
       )
 
   -- what holds of each page's id holds of each row's
-  rows_ids : (P : ℕ → Type 0) (parent : Option ℕ) (path url : List ℕ) (f : Forest Body) → AllIds P f → AllByRecursion (λ (row : Row Body). P row.id) (rows_below parent path url f)
+  rows_ids : (P : ℕ → Type 0) (parent : Option ℕ) (path url : List ℕ) (f : Forest Body) →
+      AllIds P f → AllByRecursion (λ (row : Row Body). P row.id) (rows_below parent path url f)
   rows_ids P parent path url bare all = tt
-  rows_ids P parent path url (grown i s slug body kids rest) all =
-      (all.0, all_append _ _ _ (rows_ids P (Some i) (path ++ s ∷ []) (child_url url slug) kids all.1) (rows_ids P parent path url rest all.2))
+  rows_ids P parent path url (grown i s slug body kids rest) all = (
+    all.0,
+    all_append _ _ _ (rows_ids P (Some i) (path ++ s ∷ []) (child_url url slug) kids all.1)
+        (rows_ids P parent path url rest all.2),
+  )
 
   -- A walk that leads to the page of a row, from below a page with this path and URL.
   record IsWalkTo (path url : List ℕ) (visits : List (Visit Body)) (row : Row Body) : Type 0 where
@@ -99,44 +91,71 @@ module _ {Body : Type 0} where
   not_empty x xs e = grind arith
 
   -- a walk from below a page, with that page before it
-  longer_walk : (path url : List ℕ) (here : Visit Body) (visits others : List (Visit Body)) (row : Row Body) → IsWalkTo (path ++ here.step ∷ []) (child_url url here.slug) visits row → IsWalkTo path url (first_walk (extended here visits) others) row
+  longer_walk :
+      (path url : List ℕ) (here : Visit Body) (visits others : List (Visit Body)) (row : Row Body) →
+      IsWalkTo (path ++ here.step ∷ []) (child_url url here.slug) visits row →
+      IsWalkTo path url (first_walk (extended here visits) others) row
   longer_walk path url here [] others row walked = absurd (walked.found refl)
   longer_walk path url here (visit ∷ visits) others row walked = record {
     found = not_empty here (visit ∷ visits);
-    path_is = sym (append_assoc path (here.step ∷ []) (map (λ (v : Visit Body). v.step) (visit ∷ visits))) ∙ walked.path_is;
-    url_is = sym (append_assoc url (here.slug ++ SLASH ∷ []) (slugs_along (visit ∷ visits))) ∙ (ap (λ text. text ++ slugs_along (visit ∷ visits)) (sym (append_assoc url here.slug (SLASH ∷ []))) ∙ walked.url_is);
+    path_is =
+        sym (append_assoc path (here.step ∷ []) (map (λ (v : Visit Body). v.step) (visit ∷ visits)))
+        ∙ walked.path_is;
+    url_is =
+        sym (append_assoc url (here.slug ++ SLASH ∷ []) (slugs_along (visit ∷ visits)))
+        ∙ (ap (λ text. text ++ slugs_along (visit ∷ visits))
+        (sym (append_assoc url here.slug (SLASH ∷ []))) ∙ walked.url_is);
   }
 
   -- each row below a page tells the walk to its page from there
-  rows_walked : (parent : Option ℕ) (path url : List ℕ) (f : Forest Body) → AreApart f → AllByRecursion (λ (row : Row Body). IsWalkTo path url (walk row.id f) row) (rows_below parent path url f)
+  rows_walked : (parent : Option ℕ) (path url : List ℕ) (f : Forest Body) → AreApart f →
+      AllByRecursion (λ (row : Row Body). IsWalkTo path url (walk row.id f) row)
+      (rows_below parent path url f)
   rows_walked parent path url bare apart = tt
   rows_walked parent path url (grown i s slug body kids rest) apart =
-      let here : Visit Body = record { id = i; step = s; slug = slug; body = body; numchild = kid_count kids } in
+      let here : Visit Body =
+      record { id = i; step = s; slug = slug; body = body; numchild = kid_count kids } in
       let whole = grown i s slug body kids rest in
       let same : nat_eq i i ≡ true = grind (arith, nat_tests) in
       let P : Row Body → Type 0 = λ row. IsWalkTo path url (walk row.id whole) row in
       let below = rows_below (Some i) (path ++ s ∷ []) (child_url url slug) kids in
       let after = rows_below parent path url rest in
-      let first : IsWalkTo path url (walk i whole) (record { id = i; parent = parent; path = path ++ s ∷ []; url = child_url url slug; slug = slug; numchild = kid_count kids; body = body }) =
+      let first :
+      IsWalkTo path url (walk i whole)
+      (record {
+        id = i;
+        parent = parent;
+        path = path ++ s ∷ [];
+        url = child_url url slug;
+        slug = slug;
+        numchild = kid_count kids;
+        body = body;
+      }) =
       rw same (record {
         found = not_empty here [];
         path_is = refl;
         url_is = rw (append-nil (slug ++ SLASH ∷ [])) (sym (append_assoc url slug (SLASH ∷ [])));
       }) in
       let deeper : AllByRecursion P below =
-      all_both (λ (row : Row Body). row.id ≡ i → ⊥) (λ (row : Row Body). IsWalkTo (path ++ s ∷ []) (child_url url slug) (walk row.id kids) row) P below
+      all_both (λ (row : Row Body). row.id ≡ i → ⊥)
+      (λ (row : Row Body). IsWalkTo (path ++ s ∷ []) (child_url url slug)
+      (walk row.id kids) row) P below
       (λ row apart_from walked.
       let differs : nat_eq i row.id ≡ false = grind (arith, nat_tests) in
       rw differs (longer_walk path url here (walk row.id kids) (walk row.id rest) row walked))
       (rows_ids (λ j. j ≡ i → ⊥) (Some i) (path ++ s ∷ []) (child_url url slug) kids apart.0.0)
       (rows_walked (Some i) (path ++ s ∷ []) (child_url url slug) kids apart.1) in
       let Q : ℕ → Type 0 = λ j. (j ≡ i → ⊥) × AllIds (λ k. k ≡ j → ⊥) kids in
-      let apart_from_both = all_both (λ (row : Row Body). row.id ≡ i → ⊥) (λ (row : Row Body). AllIds (λ k. k ≡ row.id → ⊥) kids) (λ (row : Row Body). Q row.id) after
+      let apart_from_both =
+      all_both (λ (row : Row Body). row.id ≡ i → ⊥)
+      (λ (row : Row Body). AllIds (λ k. k ≡ row.id → ⊥) kids)
+      (λ (row : Row Body). Q row.id) after
       (λ row p q. (p, q))
       (rows_ids (λ j. j ≡ i → ⊥) parent path url rest apart.0.1)
       (rows_ids (λ j. AllIds (λ k. k ≡ j → ⊥) kids) parent path url rest apart.0.2) in
       let later : AllByRecursion P after =
-      all_both (λ (row : Row Body). Q row.id) (λ (row : Row Body). IsWalkTo path url (walk row.id rest) row) P after
+      all_both (λ (row : Row Body). Q row.id)
+      (λ (row : Row Body). IsWalkTo path url (walk row.id rest) row) P after
       (λ row q walked.
       let apart_from : row.id ≡ i → ⊥ = q.0 in
       let differs : nat_eq i row.id ≡ false = grind (arith, nat_tests) in
@@ -146,16 +165,31 @@ module _ {Body : Type 0} where
       (first, all_append P below after deeper later)
 
   -- the URL that a walk from the root on gives, where the walk leads anywhere
-  url_from_root : (t : Bool) (here : Visit Body) (visits : List (Visit Body)) → here.slug ≡ [] → (cond t (here ∷ []) (first_walk (extended here visits) []) ≡ [] → ⊥) → SLASH ∷ slugs_along (drop 1 (cond t (here ∷ []) (first_walk (extended here visits) []))) ≡ slugs_along (cond t (here ∷ []) (first_walk (extended here visits) []))
+  url_from_root : (t : Bool) (here : Visit Body) (visits : List (Visit Body)) → here.slug ≡ [] →
+      (cond t (here ∷ []) (first_walk (extended here visits) []) ≡ [] → ⊥) →
+      SLASH ∷ slugs_along (drop 1 (cond t (here ∷ []) (first_walk (extended here visits) [])))
+      ≡ slugs_along (cond t (here ∷ []) (first_walk (extended here visits) []))
   url_from_root true here visits empty found = rw empty refl
   url_from_root false here [] empty found = absurd (found refl)
   url_from_root false here (visit ∷ visits) empty found = rw empty refl
 
   -- each row of a tree tells the path and the URL of its page
-  pub rows_of-walk : (own : Body) (kids : Forest Body) → HasDistinctIds (grown 1 1 [] own kids bare) → AllByRecursion (λ (row : Row Body). (path_of row.id (grown 1 1 [] own kids bare) ≡ row.path) × (url_of row.id (grown 1 1 [] own kids bare) ≡ row.url)) (rows_of (grown 1 1 [] own kids bare))
+  pub rows_of-walk : (own : Body) (kids : Forest Body) →
+      HasDistinctIds (grown 1 1 [] own kids bare) →
+      AllByRecursion
+      (λ (row : Row Body). (path_of row.id (grown 1 1 [] own kids bare) ≡ row.path)
+      × (url_of row.id (grown 1 1 [] own kids bare) ≡ row.url))
+      (rows_of (grown 1 1 [] own kids bare))
   rows_of-walk own kids distinct =
       let tree = grown 1 1 [] own kids bare in
-      let here : Visit Body = record { id = 1; step = 1; slug = []; body = own; numchild = kid_count kids } in
-      all_weaker (λ (row : Row Body). IsWalkTo [] [] (walk row.id tree) row) (λ (row : Row Body). (path_of row.id tree ≡ row.path) × (url_of row.id tree ≡ row.url)) (rows_of tree)
-      (λ row walked. (walked.path_is, url_from_root (nat_eq 1 row.id) here (walk row.id kids) refl walked.found ∙ walked.url_is))
+      let here : Visit Body =
+      record { id = 1; step = 1; slug = []; body = own; numchild = kid_count kids } in
+      all_weaker (λ (row : Row Body). IsWalkTo [] [] (walk row.id tree) row)
+      (λ (row : Row Body). (path_of row.id tree ≡ row.path) × (url_of row.id tree ≡ row.url))
+      (rows_of tree)
+      (λ row walked. (
+        walked.path_is,
+        url_from_root (nat_eq 1 row.id) here (walk row.id kids) refl walked.found
+            ∙ walked.url_is,
+      ))
       (rows_walked None [] [] tree (AreApart-distinct tree distinct))

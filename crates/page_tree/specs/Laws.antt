@@ -1,4 +1,5 @@
--- The laws of the tree and its rows, each proved in src/laws.rt. A page's body is a number here; the lemmas hold whatever it is.
+-- The laws of the tree and its rows, each proved in src/laws.rt. A page's body is a number here;
+-- the lemmas hold whatever it is.
 use Rattle.std.specs.Prelude.{◌≡◌, ℕ, ◌+◌, List, [], ◌∷◌, Some, is_some}
 use Rattle.std.specs.List.{AllByRecursion}
 use Rattle.page_tree.specs.Tree.{Forest, bare, grown, End, AllIds, AreRising, HasDistinctIds, has_page, last_step, graft}
@@ -41,7 +42,8 @@ AppendAddsRow =
     rows_of (graft 1 End (page_alone id step slug body) (tree_with own kids))
     ≡ with_row (row_after (last_step 0 kids) id slug body) (rows_of (tree_with own kids))
 
--- the path of a page appended below the root, whose id is new, ends with the last sibling's step plus one
+-- the path of a page appended below the root, whose id is new, ends with the last sibling's step
+-- plus one
 abbrev pub AppendedPath : Type 0
 AppendedPath =
     (id step : ℕ) (slug : List ℕ) (body own : ℕ) (kids : Forest ℕ) →

@@ -1,4 +1,5 @@
--- The flat rows of a tree, depth first: what django-treebeard keeps of it, a row for each page with its materialized
+-- The flat rows of a tree, depth first: what django-treebeard keeps of it, a row for each page with
+-- its materialized
 -- path. Looking rows up, and putting a new one in its place.
 use Rattle.std.specs.Prelude.{ℕ, Bool, true, false, Option, Some, None, ◌==◌, nat_lt, ◌&&◌, List, [], ◌∷◌, ◌++◌, ◌+◌}
 use Rattle.std.specs.Prelude.{map, filter, find, if◌then◌else◌}
@@ -7,7 +8,8 @@ use Rattle.std.specs.Str.{bytes_eq}
 use Rattle.page_tree.specs.Tree.{Forest, bare, grown}
 use Rattle.page_tree.specs.Walk.{kid_count, SLASH}
 
--- A page as one row: where it stands, by its parent's id, the steps of its path and its URL, and what is kept of it.
+-- A page as one row: where it stands, by its parent's id, the steps of its path and its URL, and
+-- what is kept of it.
 pub record Row (Body : Type 0) : Type 0 where
   pub id : ℕ
   pub parent : Option ℕ
@@ -26,7 +28,8 @@ abbrev pub is_parent : ℕ → Option ℕ → Bool
 is_parent id None = false
 is_parent id (Some p) = p == id
 
--- Depth-first order: the first step that differs decides, and a path comes before those that it begins.
+-- Depth-first order: the first step that differs decides, and a path comes before those that it
+-- begins.
 abbrev pub comes_before : List ℕ → List ℕ → Bool
 comes_before [] [] = false
 comes_before [] (y ∷ ys) = true
@@ -34,7 +37,8 @@ comes_before (x ∷ xs) [] = false
 comes_before (x ∷ xs) (y ∷ ys) = if x == y then comes_before xs ys else nat_lt x y
 
 module _ {Body : Type 0} where
-  -- The rows of pages side by side and of all below them, depth first. Their parent, where they have one, has this
+  -- The rows of pages side by side and of all below them, depth first. Their parent, where they
+  -- have one, has this
   -- path and this URL.
   abbrev pub rows_below : Option ℕ → List ℕ → List ℕ → Forest Body → List (Row Body)
   rows_below parent path url bare = []
@@ -48,7 +52,8 @@ module _ {Body : Type 0} where
         numchild = kid_count kids;
         body = body;
       }
-      ∷ (rows_below (Some i) (path ++ step ∷ []) (child_url url slug) kids ++ rows_below parent path url rest)
+      ∷ (rows_below (Some i) (path ++ step ∷ []) (child_url url slug) kids
+      ++ rows_below parent path url rest)
 
   -- The rows of a whole tree. The root's slug is empty, so that its URL is `/`.
   abbrev pub rows_of : Forest Body → List (Row Body)
@@ -61,7 +66,8 @@ module _ {Body : Type 0} where
   -- the page below this parent with this slug
   abbrev pub kid_named : ℕ → List ℕ → List (Row Body) → Option ℕ
   kid_named parent slug rows =
-      option_map (λ row. row.id) (find (λ row. is_parent parent row.parent && bytes_eq row.slug slug) rows)
+      option_map (λ row. row.id)
+      (find (λ row. is_parent parent row.parent && bytes_eq row.slug slug) rows)
 
   -- the ids of a page's children, in order
   abbrev pub kids_in : ℕ → List (Row Body) → List ℕ

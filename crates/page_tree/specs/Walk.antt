@@ -3,7 +3,8 @@ use Rattle.std.specs.Prelude.{ℕ, ◌==◌, List, [], ◌∷◌, ◌++◌, ◌+
 use Rattle.std.specs.List.{flat_map}
 use Rattle.page_tree.specs.Tree.{Forest, bare, grown}
 
--- A page met on a walk: its place among its siblings, what is kept of it, and how many children it has.
+-- A page met on a walk: its place among its siblings, what is kept of it, and how many children it
+-- has.
 pub record Visit (Body : Type 0) : Type 0 where
   pub id : ℕ
   pub step : ℕ
@@ -26,16 +27,18 @@ module _ {Body : Type 0} where
   first_walk [] others = others
   first_walk (visit ∷ visits) others = visit ∷ visits
 
-  -- one page before a walk that begins among its children, where there is such a walk
+  -- one page before a walk that begins among its children, if there is one
   abbrev pub extended : Visit Body → List (Visit Body) → List (Visit Body)
   extended here [] = []
   extended here (visit ∷ visits) = here ∷ visit ∷ visits
 
-  -- the pages from a root down to the page with the id, that page included; empty where there is none
+  -- the pages from a root down to the page with the id, that page included; empty where there is
+  -- none
   abbrev pub walk : ℕ → Forest Body → List (Visit Body)
   walk id bare = []
   walk id (grown i step slug body kids rest) =
-      let here : Visit Body = record { id = i; step = step; slug = slug; body = body; numchild = kid_count kids } in
+      let here : Visit Body =
+      record { id = i; step = step; slug = slug; body = body; numchild = kid_count kids } in
       if i == id then here ∷ [] else first_walk (extended here (walk id kids)) (walk id rest)
 
   -- the path of a page: the steps on the walk to it

@@ -54,7 +54,9 @@ pub fn grow(
     kids: Grove,
     rest: Grove,
 ) -> Result<Grove, AllocError>
-    ensures { IfOk result (λ tree. forest_of tree ≡ grown page.now.id step page.now.slug.items page.now.body (forest_of kids) (forest_of rest)) }
+    ensures { IfOk result (λ tree. forest_of tree
+        ≡ grown page.now.id step page.now.slug.items page.now.body
+        (forest_of kids) (forest_of rest)) }
 {
     let slug = Vec::from_slice(alloc, &page.slug)?;
     let page = Page {

@@ -6,6 +6,4 @@ pub mod grove;
 pub mod laws;
 pub mod listing;
 pub mod place;
-#[cfg(test)]
-mod tests;
 pub mod walk;

@@ -45,7 +45,9 @@ fn add_rows(
     tree: &Grove,
     rows: &mut Vec<PageRow>,
 ) -> Result<(), AllocError>
-    ensures { OnOk result (map row_of rows.new.items ≡ map row_of rows.old.items ++ rows_below parent path.now url.now (forest_of tree.now)) }
+    ensures { OnOk result (map row_of rows.new.items
+        ≡ map row_of rows.old.items
+        ++ rows_below parent path.now url.now (forest_of tree.now)) }
 {
     match tree {
         Grove::Bare => Ok(()),

@@ -17,7 +17,8 @@ pub fn moved(
     tree: &Grove,
 ) -> Result<Grove, AllocError>
     requires { HasRoom (forest_of tree.now) }
-    ensures { IfOk result (λ after. forest_of after ≡ moved page parent (place_of spot) (forest_of tree.now)) }
+    ensures { IfOk result (λ after. forest_of after
+        ≡ moved page parent (place_of spot) (forest_of tree.now)) }
 {
     let node = node_of(alloc, page, tree)?;
     let left = without(alloc, page, tree)?;
@@ -33,7 +34,8 @@ pub fn graft(
     tree: &Grove,
 ) -> Result<Grove, AllocError>
     requires { HasRoom (forest_of tree.now) }
-    ensures { IfOk result (λ after. forest_of after ≡ graft parent (place_of spot) (forest_of node.now) (forest_of tree.now)) }
+    ensures { IfOk result (λ after. forest_of after
+        ≡ graft parent (place_of spot) (forest_of node.now) (forest_of tree.now)) }
 {
     match tree {
         Grove::Bare => Ok(Grove::Bare),
@@ -54,7 +56,8 @@ pub fn graft(
 /// one.
 pub fn put(alloc: Global, spot: Spot, node: &Grove, kids: &Grove) -> Result<Grove, AllocError>
     requires { HasRoom (forest_of kids.now) }
-    ensures { IfOk result (λ after. forest_of after ≡ put (place_of spot) (forest_of node.now) (forest_of kids.now)) }
+    ensures { IfOk result (λ after. forest_of after
+        ≡ put (place_of spot) (forest_of node.now) (forest_of kids.now)) }
 {
     match spot {
         Spot::AtFirst => {
@@ -75,7 +78,8 @@ pub fn put_before(
     kids: &Grove,
 ) -> Result<Grove, AllocError>
     requires { HasRoom (forest_of kids.now) }
-    ensures { IfOk result (λ after. forest_of after ≡ put_before sibling (forest_of node.now) (forest_of kids.now)) }
+    ensures { IfOk result (λ after. forest_of after
+        ≡ put_before sibling (forest_of node.now) (forest_of kids.now)) }
 {
     match kids {
         Grove::Bare => Ok(Grove::Bare),
@@ -100,7 +104,8 @@ pub fn put_before(
 pub fn put_last(alloc: Global, before: u32, node: &Grove, kids: &Grove) -> Result<Grove, AllocError>
     requires has_next { before + 1 < 2 ^ 32 }
     requires has_room { HasRoom (forest_of kids.now) }
-    ensures { IfOk result (λ after. forest_of after ≡ put_last before (forest_of node.now) (forest_of kids.now)) }
+    ensures { IfOk result (λ after. forest_of after
+        ≡ put_last before (forest_of node.now) (forest_of kids.now)) }
 {
     match kids {
         Grove::Bare => placed(alloc, node, before + 1, Grove::Bare),
@@ -133,7 +138,8 @@ pub fn raised(alloc: Global, siblings: &Grove) -> Result<Grove, AllocError>
 
 /// A page that stands alone, at this step and with these siblings after it.
 pub fn placed(alloc: Global, node: &Grove, at: u32, rest: Grove) -> Result<Grove, AllocError>
-    ensures { IfOk result (λ siblings. forest_of siblings ≡ placed (forest_of node.now) at (forest_of rest)) }
+    ensures { IfOk result (λ siblings. forest_of siblings
+        ≡ placed (forest_of node.now) at (forest_of rest)) }
 {
     match node {
         Grove::Bare => Ok(rest),

@@ -52,7 +52,9 @@ pub fn url_of(alloc: Global, id: u32, tree: &Grove) -> Result<Vec<u8>, AllocErro
 
 /// The slug of each page on the walk to a page, and `/` after it; `None` where no page has the id.
 fn slugs_to(alloc: Global, id: u32, tree: &Grove) -> Result<Option<Vec<u8>>, AllocError>
-    ensures { IfOk result (λ slugs. MatchOption slugs (slugs_to id (forest_of tree.now) ≡ None) (λ text. slugs_to id (forest_of tree.now) ≡ Some text.items)) }
+    ensures { let along = slugs_to id (forest_of tree.now) in
+        IfOk result (λ slugs.
+        MatchOption slugs (along ≡ None) (λ text. along ≡ Some text.items)) }
 {
     match tree {
         Grove::Bare => Ok(None),

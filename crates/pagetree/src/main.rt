@@ -1,47 +1,24 @@
-//! The page tree server: `pagetree FOLDER session [--at N] [--step K]` answers the requests of
+//! The program: `pagetree FOLDER session [--at N] [--step K]` answers the requests of
 //! standard input.
 #![tactic(auto)]
 
-mod answer;
-#[cfg(test)]
-mod command_rows;
-#[cfg(test)]
-mod command_tests;
-mod exchange;
-mod held;
-mod laws;
-mod options;
-#[cfg(test)]
-mod people_rows;
-#[cfg(test)]
-mod people_tests;
-mod run;
-mod session;
-mod site;
-mod status;
-#[cfg(test)]
-mod tests;
-mod words;
-
 use outside_world::{StreamSink, StreamSource, SystemClock};
-use run::run_command;
-use status::Status;
+use pagetree_session::{Status, Words, run_command};
 use std::process::ExitCode;
 use std::{env, io};
-use words::Words;
 
 fn main(rt: HostRuntime) -> ExitCode {
     let status = run_in(&rt);
     if status != Status::Done {
-        // Where standard error takes no more, the exit code alone tells the status.
+        // If standard error takes no more, the exit code alone gives the status.
         let _ = eprintln!(&rt; "pagetree: {status}");
     }
     ExitCode::from(status.code())
 }
 
-/// Runs the command behind the folder. The folder is not used yet.
+/// Runs the command after the folder. The folder is not used yet.
 fn run_in(rt: &HostRuntime) -> Status {
-    let words = match words_behind_folder(rt) {
+    let words = match words_after_folder(rt) {
         Ok(words) => words,
         Err(status) => return status,
     };
@@ -51,8 +28,8 @@ fn run_in(rt: &HostRuntime) -> Status {
     run_command(rt.alloc(), &words, &mut source, &mut sink, &mut clock)
 }
 
-/// The words of the command line behind the folder: none where there is no folder.
-fn words_behind_folder(rt: &HostRuntime) -> Result<Words, Status> {
+/// The words of the command line after the folder: none if there is no folder.
+fn words_after_folder(rt: &HostRuntime) -> Result<Words, Status> {
     let args = match env::args(rt) {
         Ok(args) => args,
         Err(error) => return Err(status_of(&error)),
@@ -66,8 +43,8 @@ fn words_behind_folder(rt: &HostRuntime) -> Result<Words, Status> {
     Ok(words)
 }
 
-/// The status where the words of the command line cannot be had: memory was refused, or one of them
-/// is not UTF-8.
+/// The status if the words of the command line cannot be read: memory ran out, or one of them is not
+/// UTF-8.
 fn status_of(error: &io::Error) -> Status {
     if error.kind() == io::ErrorKind::OutOfMemory {
         Status::Memory

@@ -15,10 +15,10 @@ use Rattle.page_store.specs.Pages.{Page}
 use Rattle.page_store.specs.Search.{begins}
 use Rattle.page_store.proofs.RangeLemmas.{All-at}
 use Rattle.path_moves.specs.declared.spot.Spot.{Spot}
-use Rattle.path_moves.specs.Subtree.{subtree_rows}
-use Rattle.path_moves.specs.Cuts.{lower_row, cut_rows, moved_rows, raise_row, end_of, put_from}
+use Rattle.tree_rows.specs.Subtree.{subtree_rows}
+use Rattle.tree_rows.specs.Cuts.{lower_row, cut_rows, moved_rows, raise_row, end_of, put_from}
 use Rattle.path_moves.specs.Spots.{place_of_spot, path_of_spot}
-use Rattle.path_moves.proofs.SubtreeLemmas.{found_at_place}
+use Rattle.tree_rows.proofs.SubtreeLemmas.{found_at_place}
 use Rattle.path_moves.proofs.MoveLaws.{IsPut, TakesStep, is_tree, move_put, spot_place, end_of-map}
 use Rattle.path_moves.proofs.Windows.{between, failing, two_splits, take_split}
 use Rattle.path_moves.proofs.Remaining.{lower_keeps, place_of-map, row_with-cut, place_remaining, one_remaining}

@@ -13,8 +13,8 @@ use Rattle.path_moves.specs.declared.fault.PathFault.{PathFault}
 use Rattle.path_moves.specs.declared.fault.PathFault.TheVariants.{StepsFull, TooDeep, Memory}
 use Rattle.path_moves.specs.declared.spot.Spot.{Spot}
 use Rattle.path_moves.specs.declared.standing.Standing.{Standing}
-use Rattle.path_moves.specs.Subtree.{step_after}
-use Rattle.path_moves.specs.Cuts.{other_rows}
+use Rattle.tree_rows.specs.Subtree.{step_after}
+use Rattle.tree_rows.specs.Cuts.{other_rows}
 use Rattle.path_moves.specs.Plans.{UnlessMemory, planned_move}
 use Rattle.path_moves.specs.Spots.{spot_for, place_past, place_of_spot, place_without, last_place, path_of_spot, rows_between, moved_pair, raised_pair, FitBelow, GoesUp}
 use Rattle.path_moves.proofs.Planned.{Leads}

@@ -21,12 +21,12 @@ use Rattle.page_store.proofs.AllLemmas.{All-map, All-weaker}
 use Rattle.page_store.proofs.SeenLemmas.{found_by_own_id}
 use Rattle.path_moves.specs.declared.fault.PathFault.TheVariants.{IntoItself, StepsFull, TooDeep}
 use Rattle.path_moves.specs.Plans.{plan_of, planned_move}
-use Rattle.path_moves.proofs.Apart.{Lacks, AreApart, AreApart-distinct}
+use Rattle.tree_rows.proofs.Apart.{Lacks, AreApart, AreApart-distinct}
 use Rattle.path_moves.proofs.ApplyKept.{AllPlaced, placed_from_rows, placed-without, placed-node_of, placed-graft}
 use Rattle.path_moves.proofs.ApplyLands.{root-graft, root-without}
 use Rattle.path_moves.proofs.ApplySlugs.{IsAt, StandsAt, GoesBelow}
 use Rattle.path_moves.proofs.CallLemmas.{ids_of-rows}
-use Rattle.path_moves.proofs.SiteTree.{rising_tree}
+use Rattle.tree_rows.proofs.SiteTree.{rising_tree}
 use Rattle.path_moves.proofs.TreePages.{HasRoot, root_from_rows, within_from_rows}
 
 -- ids that differ are distinct

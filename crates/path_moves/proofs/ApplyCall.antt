@@ -16,7 +16,7 @@ use Rattle.page_store.specs.Pages.{Page, EachPair, HasOtherId, ArePages}
 use Rattle.page_store.specs.Relabelling.{relabelled_rows, AreListed, first_moved, KeepParents}
 use Rattle.page_store.proofs.AllLemmas.{All-map, All-weaker}
 use Rattle.path_moves.specs.Applying.{IsMovable, IsPlanned, IsFree}
-use Rattle.path_moves.specs.Cuts.{place_of}
+use Rattle.tree_rows.specs.Cuts.{place_of}
 use Rattle.path_moves.proofs.ApplyAfter.{IsClear, distinct_from_rows, planned_clear}
 use Rattle.path_moves.proofs.ApplyKept.{rows_from_placed}
 use Rattle.path_moves.proofs.ApplyMatched.{Stays, relabelled_are}

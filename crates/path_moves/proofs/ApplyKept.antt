@@ -7,7 +7,7 @@ use Rattle.page_tree.specs.Rows.{rows_below, child_url}
 use Rattle.tree_model.proofs.CountLemmas.{id_found}
 use Rattle.page_store.specs.Pages.{Page}
 use Rattle.page_store.proofs.AllLemmas.{All-append}
-use Rattle.path_moves.proofs.Lists.{All-parts}
+use Rattle.tree_rows.proofs.Lists.{All-parts}
 
 -- P holds of each page's id, parent, slug and fields, where that of the pages at the top is q
 abbrev pub AllPlaced : (ℕ → Option ℕ → List ℕ → Body → Type 0) → Option ℕ → Forest Body → Type 0

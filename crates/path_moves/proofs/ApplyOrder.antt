@@ -6,7 +6,7 @@ use Rattle.site_types.specs.declared.body.Body.{Body}
 use Rattle.page_tree.specs.Tree.{Forest, bare, grown, Place, First, Before, End, has_page, ids_of, kids_of, or_else, raised, placed, put_last, put_before, put, graft}
 use Rattle.tree_model.proofs.CountLemmas.{or_bare}
 use Rattle.tree_model.proofs.PlaceLemmas.{IsAmong, has_kid}
-use Rattle.path_moves.proofs.Apart.{AreApart, kids_of-lacks, graft-lacks, lacks_after, lacks_below}
+use Rattle.tree_rows.proofs.Apart.{AreApart, kids_of-lacks, graft-lacks, lacks_after, lacks_below}
 
 -- Ids with those of a page put in at a place.
 pub record AreParted (whole node after : List ℕ) : Type 0 where

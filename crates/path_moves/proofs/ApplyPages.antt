@@ -25,7 +25,7 @@ use Rattle.path_moves.proofs.ApplyAfter.{IsClear, IsAfter, distinct_tree, no_zer
 use Rattle.path_moves.proofs.ApplyKept.{rows_from_placed}
 use Rattle.path_moves.proofs.ApplyLands.{not_root, move_lands}
 use Rattle.path_moves.proofs.ApplySlugs.{IsAt, StandsAt, GoesBelow, found_id, slugs_after}
-use Rattle.path_moves.proofs.SiteTree.{AllIds-rows}
+use Rattle.tree_rows.proofs.SiteTree.{AllIds-rows}
 use Rattle.path_moves.proofs.TreePages.{root_from_rows, starts_at_root, rows_in_order, rows_own_ids, rows_paths}
 use Rattle.path_moves.proofs.TreeParents.{parents_told, counts_told}
 

@@ -16,15 +16,15 @@ use Rattle.page_store.specs.Search.{begins, leading}
 use Rattle.page_store.proofs.AllLemmas.{All-map, All-weaker, All-always}
 use Rattle.page_store.proofs.Leading.{leading-map}
 use Rattle.page_store.proofs.PathOrder.{begins-BeginsWith, BeginsWith-begins}
-use Rattle.path_moves.specs.Cuts.{place_of, lower_count, other_rows}
+use Rattle.tree_rows.specs.Cuts.{place_of, lower_count, other_rows}
 use Rattle.path_moves.specs.Laws.{IsTree}
-use Rattle.path_moves.proofs.Apart.{AreApart-without, rows_ids}
+use Rattle.tree_rows.proofs.Apart.{AreApart-without, rows_ids}
 use Rattle.path_moves.proofs.ApplyAfter.{distinct_tree, left_lacks}
 use Rattle.path_moves.proofs.ApplyOrder.{parted-graft, map-window_moved, window_moved-parted}
 use Rattle.path_moves.proofs.CallLemmas.{ids_of-rows, deleted_is}
 use Rattle.path_moves.proofs.LawLemmas.{cut_is, leading-front, other_id}
-use Rattle.path_moves.proofs.Lists.{All-parts, filter_all, filter_none}
-use Rattle.path_moves.proofs.SiteTree.{rising_tree, apart_tree}
+use Rattle.tree_rows.proofs.Lists.{All-parts, filter_all, filter_none}
+use Rattle.tree_rows.proofs.SiteTree.{rising_tree, apart_tree}
 
 -- the ids of rows
 abbrev pub row_ids : List Page → List ℕ

@@ -21,10 +21,10 @@ use Rattle.page_store.proofs.WindowLemmas.{there_is}
 use Rattle.step_path.specs.Path.{BeginsWith}
 use Rattle.path_moves.specs.declared.spot.Spot.{Spot}
 use Rattle.path_moves.specs.declared.spot.Spot.TheVariants.{First as AtFirst, Before as AtPlace, End as AtEnd}
-use Rattle.path_moves.specs.Cuts.{lower_row}
+use Rattle.tree_rows.specs.Cuts.{lower_row}
 use Rattle.path_moves.specs.Spots.{place_past}
-use Rattle.path_moves.proofs.Paths.{rows_go_on, earlier_out}
-use Rattle.path_moves.proofs.SubtreeLemmas.{rows_begin, range_some}
+use Rattle.tree_rows.proofs.Paths.{rows_go_on, earlier_out}
+use Rattle.tree_rows.proofs.SubtreeLemmas.{rows_begin, range_some}
 use Rattle.path_moves.proofs.PlaceLemmas.{same_place}
 use Rattle.path_moves.proofs.MoveLaws.{is_tree, left_is_tree}
 use Rattle.path_moves.proofs.Windows.{between, failing, Passes, between_split, between_next, between_none, All-front, All-behind, All-narrower, fails_outside, passes_inside, none_fails}

@@ -4,6 +4,7 @@ use Prim.Native.Nat.{zero}
 use Rattle.std.specs.Option.{option_map, IfSome}
 use Rattle.std.proofs.lemmas.List.{append-nil, map-append}
 use Rattle.page_tree.specs.Tree.{Forest, bare, grown, has_page, node_of, kids_of, ids_of, or_else}
+use Rattle.page_tree.specs.Walk.{path_of}
 use Rattle.page_tree.specs.Rows.{Row, rows_below, rows_of, row_with, child_url}
 use Rattle.page_tree.proofs.RowLemmas.{has_page-rows}
 use Rattle.step_path.specs.Path.{IsPath, IsPathText, path_text, steps_of}
@@ -16,10 +17,10 @@ use Rattle.page_store.specs.Search.{begins}
 use Rattle.page_store.proofs.PathOrder.{begins-self}
 use Rattle.page_store.proofs.SeenLemmas.{All-find}
 use Rattle.page_store.proofs.WindowLemmas.{there_is}
-use Rattle.path_moves.specs.Subtree.{last_of, subtree_rows, step_after}
+use Rattle.tree_rows.specs.Subtree.{last_of, subtree_rows, step_after}
 use Rattle.path_moves.specs.Append.{path_below, appended_path}
-use Rattle.path_moves.proofs.Lists.{slice_get-drop}
-use Rattle.path_moves.proofs.SubtreeLemmas.{range_rows, last_path_is, found_block, block_rows, appended_is}
+use Rattle.tree_rows.proofs.Lists.{slice_get-drop}
+use Rattle.tree_rows.proofs.SubtreeLemmas.{range_rows, last_path_is, found_block, block_rows, step_after-last}
 
 -- the row of a page keeps the text of its path
 pub row_text : (pages : List Page) (id : ℕ) (kept : PageRow) (text : List ℕ) → ArePages pages →
@@ -86,6 +87,24 @@ has_last pages id path found none = by (row_with id pages) refl found
         let last = last_of_filter (λ (r : Page). begins row.path r.path) pages
         (λ (r : Page). nat_eq r.id id) row e (begins-self row.path) in
         let never = rw last.1 at (none row e) in cc
+
+-- the path of an appended page, read off the rows
+appended_is : (tree : Forest Body) (parent : ℕ) (row last : Page) → ArePages (rows_of tree) →
+    row_with parent (rows_of tree) ≡ Some row →
+    last_of (subtree_rows row.path (rows_of tree)) ≡ Some last →
+    path_below row.path (step_after row.path last.path) ≡ appended_path parent tree
+appended_is tree parent row last are found end =
+    let block = found_block tree parent row are found in
+    let b = block.0 in
+    let rows = block_rows parent 0 None [] [] tree b in
+    let last_is : last_of
+    (b.top ∷ rows_below (Some parent) b.top.path b.top.url (kids_of parent tree)) ≡ Some last =
+    ap last_of (sym rows)
+    ∙ (ap (λ (r : Page). last_of (subtree_rows r.path (rows_of tree))) (sym block.1)
+    ∙ end) in
+    let step = step_after-last parent b.top last (kids_of parent tree) last_is in
+    let path : path_of parent tree ≡ b.top.path = b.walk_is ∙ sym b.path_is in
+    rw (block.1, step, path) refl
 
 -- the path of an appended page is the tree's
 pub append_is : (pages : List Page) (id : ℕ) (path last : List ℕ) (tree : Forest Body) →

@@ -16,10 +16,10 @@ use Rattle.page_store.specs.Pages.{Page, EachPair, HasOtherId}
 use Rattle.page_store.proofs.AllLemmas.{All-append, All-weaker, All-both, All-map}
 use Rattle.page_store.proofs.InsertLemmas.{bytes_eq-self, same_bytes}
 use Rattle.page_store.proofs.SeenLemmas.{found_by_own_id}
-use Rattle.path_moves.specs.Cuts.{moved_rows, relabel_row, raise_row, raised_path}
+use Rattle.tree_rows.specs.Cuts.{moved_rows, relabel_row, raise_row, raised_path}
 use Rattle.path_moves.specs.Spots.{moved_pair, raised_pair}
-use Rattle.path_moves.proofs.Lists.{All-parts, filter_all, filter_none}
-use Rattle.path_moves.proofs.Paths.{GoesOn}
+use Rattle.tree_rows.proofs.Lists.{All-parts, filter_all, filter_none}
+use Rattle.tree_rows.proofs.Paths.{GoesOn}
 use Rattle.path_moves.proofs.GraftLemmas.{raised_path-changes}
 use Rattle.path_moves.proofs.RelabelLemmas.{pair_of}
 use Rattle.path_moves.proofs.Remaining.{same_parts}

@@ -4,8 +4,8 @@ use Rattle.page_tree.specs.Tree.{Forest, bare, grown, End, without, moved}
 use Rattle.page_tree.specs.Rows.{Row, rows_of, raise_count}
 use Rattle.path_moves.specs.declared.fault.PathFault.TheVariants.{StepsFull}
 use Rattle.path_moves.specs.Append.{appended_path}
-use Rattle.path_moves.specs.Subtree.{subtree_rows}
-use Rattle.path_moves.specs.Cuts.{cut_rows, moved_rows, put_behind}
+use Rattle.tree_rows.specs.Subtree.{subtree_rows}
+use Rattle.tree_rows.specs.Cuts.{cut_rows, moved_rows, put_behind}
 
 -- a page without children and the siblings after it; its id is all that is kept of it
 abbrev leaf : ℕ → ℕ → List ℕ → Forest ℕ → Forest ℕ

@@ -8,7 +8,7 @@ use Rattle.page_tree.specs.Tree.{Forest, bare, grown, placed, raised, put_last, 
 use Rattle.page_tree.specs.Walk.{SLASH, kid_count}
 use Rattle.page_tree.specs.Rows.{Row, rows_below, child_url}
 use Rattle.step_path.proofs.PathLemmas.{relabelled-append}
-use Rattle.path_moves.specs.Cuts.{is_sibling, relabel_row, raise_row, raised_path}
+use Rattle.tree_rows.specs.Cuts.{is_sibling, relabel_row, raise_row, raised_path}
 
 -- a raised step behind other steps
 pub raised_path-append : (path more : List ℕ) (s : ℕ) →

@@ -13,12 +13,12 @@ use Rattle.page_store.specs.Pages.{Page, ArePages}
 use Rattle.page_store.specs.Search.{begins}
 use Rattle.page_store.proofs.PathOrder.{begins-self, begins-BeginsWith}
 use Rattle.page_store.proofs.AllLemmas.{All-weaker}
-use Rattle.path_moves.specs.Subtree.{last_of, step_after}
-use Rattle.path_moves.specs.Cuts.{lower_row, cut_rows, end_of, place_of}
-use Rattle.path_moves.proofs.Apart.{AreApart-distinct}
-use Rattle.path_moves.proofs.Block.{Block}
-use Rattle.path_moves.proofs.Paths.{GoesOn, rows_go_on}
-use Rattle.path_moves.proofs.SubtreeLemmas.{rows_begin, range_some, step_after-last}
+use Rattle.tree_rows.specs.Subtree.{last_of, step_after}
+use Rattle.tree_rows.specs.Cuts.{lower_row, cut_rows, end_of, place_of}
+use Rattle.tree_rows.proofs.Apart.{AreApart-distinct}
+use Rattle.tree_rows.proofs.Block.{Block}
+use Rattle.tree_rows.proofs.Paths.{GoesOn, rows_go_on}
+use Rattle.tree_rows.proofs.SubtreeLemmas.{rows_begin, range_some, step_after-last}
 use Rattle.path_moves.proofs.LawLemmas.{block_in, cut_is}
 use Rattle.path_moves.proofs.PlaceLemmas.{place_in_block}
 use Rattle.path_moves.proofs.MoveLaws.{is_tree, left_is_tree, end_of-map}

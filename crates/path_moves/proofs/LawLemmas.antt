@@ -13,13 +13,13 @@ use Rattle.site_types.specs.declared.body.Body.{Body}
 use Rattle.page_store.specs.Search.{begins, leading}
 use Rattle.page_store.proofs.PathOrder.{begins-self, begins-BeginsWith}
 use Rattle.page_store.proofs.AllLemmas.{All-append, All-weaker}
-use Rattle.path_moves.specs.Subtree.{subtree_rows}
-use Rattle.path_moves.specs.Cuts.{with_count, lower_count, other_rows, cut_rows, relabel_row, moved_rows, end_of, put_behind}
+use Rattle.tree_rows.specs.Subtree.{subtree_rows}
+use Rattle.tree_rows.specs.Cuts.{with_count, lower_count, other_rows, cut_rows, relabel_row, moved_rows, end_of, put_behind}
 use Rattle.path_moves.specs.Laws.{Page, IsTree}
-use Rattle.path_moves.proofs.Apart.{AreApart, AreApart-distinct, AreApart-without, AreRising-without}
-use Rattle.path_moves.proofs.Block.{Block, block_of}
-use Rattle.path_moves.proofs.Lists.{filter_all, filter_none, filter_middle}
-use Rattle.path_moves.proofs.SubtreeLemmas.{rows_begin, block_rows}
+use Rattle.tree_rows.proofs.Apart.{AreApart, AreApart-distinct, AreApart-without, AreRising-without}
+use Rattle.tree_rows.proofs.Block.{Block, block_of}
+use Rattle.tree_rows.proofs.Lists.{filter_all, filter_none, filter_middle}
+use Rattle.tree_rows.proofs.SubtreeLemmas.{rows_begin, block_rows}
 use Rattle.path_moves.proofs.GraftLemmas.{rows_below-put_last, rows_below-relabelled}
 
 -- a search passes over what fails

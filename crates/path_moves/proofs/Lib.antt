@@ -1,9 +1,3 @@
-pub mod Apart
-pub mod Paths
-pub mod Block
-pub mod Lists
-pub mod SiteTree
-pub mod SubtreeLemmas
 pub mod CallLemmas
 pub mod GraftLemmas
 pub mod LawLemmas
@@ -33,5 +27,4 @@ pub mod ApplyAfter
 pub mod ApplyPages
 pub mod ApplyPlace
 pub mod ApplyCall
-pub mod SampleLemmas
 mod Examples

@@ -12,13 +12,13 @@ use Rattle.site_types.specs.declared.body.Body.{Body}
 use Rattle.page_store.specs.Pages.{Page, EachPair, HasOtherId, ArePages}
 use Rattle.page_store.proofs.AllLemmas.{All-weaker, All-map}
 use Rattle.page_store.specs.Search.{begins, leading}
-use Rattle.path_moves.specs.Subtree.{subtree_rows}
-use Rattle.path_moves.specs.Cuts.{cut_rows, moved_rows, end_of, put_behind, put_from, place_of, is_sibling}
+use Rattle.tree_rows.specs.Subtree.{subtree_rows}
+use Rattle.tree_rows.specs.Cuts.{cut_rows, moved_rows, end_of, put_behind, put_from, place_of, is_sibling}
 use Rattle.path_moves.specs.Laws.{IsTree}
-use Rattle.path_moves.proofs.Apart.{AreRising-without, AreApart-distinct}
-use Rattle.path_moves.proofs.SiteTree.{rising_tree}
+use Rattle.tree_rows.proofs.Apart.{AreRising-without, AreApart-distinct}
+use Rattle.tree_rows.proofs.SiteTree.{rising_tree}
 use Rattle.path_moves.proofs.CallLemmas.{ids_of-rows}
-use Rattle.path_moves.proofs.Block.{Block}
+use Rattle.tree_rows.proofs.Block.{Block}
 use Rattle.path_moves.proofs.LawLemmas.{block_in, cut_is, graft_is, relabelled_is}
 use Rattle.path_moves.proofs.PlaceLemmas.{first_is, before_is, kid_step}
 

@@ -11,12 +11,12 @@ use Rattle.site_types.specs.declared.body.Body.{Body}
 use Rattle.page_store.specs.Search.{begins}
 use Rattle.page_store.proofs.PathOrder.{begins-self, begins-BeginsWith}
 use Rattle.page_store.proofs.AllLemmas.{All-append, All-weaker}
-use Rattle.path_moves.specs.Cuts.{with_count, raise_row, end_of, put_from, place_of, is_sibling}
+use Rattle.tree_rows.specs.Cuts.{with_count, raise_row, end_of, put_from, place_of, is_sibling}
 use Rattle.path_moves.specs.Laws.{Page, IsTree}
-use Rattle.path_moves.proofs.Apart.{AreApart-distinct}
-use Rattle.path_moves.proofs.Block.{Block}
-use Rattle.path_moves.proofs.Lists.{filter_middle, All-parts}
-use Rattle.path_moves.proofs.SubtreeLemmas.{rows_begin}
+use Rattle.tree_rows.proofs.Apart.{AreApart-distinct}
+use Rattle.tree_rows.proofs.Block.{Block}
+use Rattle.tree_rows.proofs.Lists.{filter_middle, All-parts}
+use Rattle.tree_rows.proofs.SubtreeLemmas.{rows_begin}
 use Rattle.path_moves.proofs.GraftLemmas.{siblings_of, kid_count-raised, rows_below-placed, rows_below-raised}
 use Rattle.path_moves.proofs.LawLemmas.{leading-front, other_id, raise-others, block_in}
 

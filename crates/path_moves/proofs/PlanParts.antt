@@ -23,11 +23,11 @@ use Rattle.page_store.proofs.RangeLemmas.{All-drop}
 use Rattle.page_store.proofs.WindowLemmas.{All-take}
 use Rattle.page_store.proofs.SeenLemmas.{found_by_own_id}
 use Rattle.path_moves.specs.declared.spot.Spot.{Spot}
-use Rattle.path_moves.specs.Cuts.{moved_rows, relabel_row, raise_row, raised_path, place_of}
+use Rattle.tree_rows.specs.Cuts.{moved_rows, relabel_row, raise_row, raised_path, place_of}
 use Rattle.path_moves.specs.Spots.{place_of_spot, place_without, moved_pair, raised_pair, FitBelow, GoesUp}
-use Rattle.path_moves.proofs.Lists.{All-parts}
-use Rattle.path_moves.proofs.Paths.{GoesOn}
-use Rattle.path_moves.proofs.SubtreeLemmas.{range_rows, range_some}
+use Rattle.tree_rows.proofs.Lists.{All-parts}
+use Rattle.tree_rows.proofs.Paths.{GoesOn}
+use Rattle.tree_rows.proofs.SubtreeLemmas.{range_rows, range_some}
 use Rattle.path_moves.proofs.LawLemmas.{leading-front, other_id}
 use Rattle.path_moves.proofs.Windows.{between, failing, between_split, between_next, failing_before}
 use Rattle.path_moves.proofs.Remaining.{All-kept, All-passes, found_id}

@@ -1,10 +1,12 @@
 -- The plan of a move, or why there is none, by what the program finds in the rows.
 use Rattle.std.proofs.Common.{◌≡◌, ℕ, ◌+◌, Bool, true, false, cond, not, nat_eq, nat_lt, ◌||◌, ◌&&◌, List, [], ◌∷◌, Option, Some, None, IsSome, is_some, Err, find, filter, unwrap_or, refl, ap, sym, ◌∙◌, subst, rules}
-use Rattle.std.specs.Option.{option_and_then}
+use Rattle.std.specs.Prelude.{◌↔◌, IsTrue}
+use Rattle.std.specs.Option.{option_map, option_and_then}
 use Rattle.page_tree.specs.Tree.{Forest, Place, First, Before, End, has_page, kids_of, last_step}
 use Rattle.page_tree.specs.Rows.{row_with, rows_below, rows_of}
 use Rattle.page_tree.proofs.RowLemmas.{has_page-rows}
 use Rattle.step_path.specs.declared.step.TheConstants.{LAST_STEP}
+use Rattle.step_path.specs.Path.{BeginsWith}
 use Rattle.site_types.specs.declared.body.Body.{Body}
 use Rattle.site_types.specs.declared.position.Position.{Position}
 use Rattle.tree_model.specs.Places.{is_beside, stays_put, parent_at, leads_into_itself}
@@ -14,10 +16,11 @@ use Rattle.page_store.specs.Search.{begins}
 use Rattle.page_store.proofs.SeenLemmas.{found_by_own_id, All-find}
 use Rattle.path_moves.specs.declared.fault.PathFault.TheVariants.{IntoItself}
 use Rattle.path_moves.specs.declared.standing.Standing.{Standing}
-use Rattle.path_moves.specs.Subtree.{subtree_rows}
+use Rattle.tree_rows.specs.Subtree.{subtree_rows}
 use Rattle.path_moves.specs.Plans.{planned_move}
 use Rattle.path_moves.specs.Spots.{IsStanding}
-use Rattle.path_moves.proofs.SubtreeLemmas.{found_block, block_rows}
+use Rattle.tree_rows.proofs.SubtreeLemmas.{found_block, block_rows}
+use Rattle.path_moves.proofs.RelabelLemmas.{test_is}
 use Rattle.path_moves.proofs.Remaining.{All-kept, All-passes, found_id}
 use Rattle.path_moves.proofs.Landing.{Grounds}
 use Rattle.path_moves.proofs.Positions.{NewPlace, new_place}
@@ -115,6 +118,30 @@ into_is tree page target position top goal are found goal_found moves =
     by false true true moves = absurd cc
     by false true false moves = refl
     by false false beside moves = refl
+
+-- the same, of paths that are looked up
+pub into_told : (pages : List Page) (tree : Forest Body) (page target : ℕ) (position : Position) (own
+    goal : List ℕ) (r : Bool) → pages ≡ rows_of tree → ArePages pages →
+    Some own ≡ option_map (λ (row : Page). row.path) (row_with page pages) →
+    Some goal ≡ option_map (λ (row : Page). row.path) (row_with target pages) →
+    stays_put page target position ≡ false → (IsTrue r ↔ BeginsWith own goal) →
+    r ≡ leads_into_itself tree page target position
+into_told pages tree page target position own goal r same are found goal_found moves begun =
+    by (row_with page pages) (row_with target pages) refl refl found goal_found
+  where
+    by : (o p : Option Page) → row_with page pages ≡ o → row_with target pages ≡ p →
+        Some own ≡ option_map (λ (row : Page). row.path) o →
+        Some goal ≡ option_map (λ (row : Page). row.path) p →
+        r ≡ leads_into_itself tree page target position
+    by None p e f own_is goal_is = absurd cc
+    by (Some top) None e f own_is goal_is = absurd cc
+    by (Some top) (Some beside) e f own_is goal_is =
+        let own_path : own ≡ top.path = cc in
+        let goal_path : goal ≡ beside.path = cc in
+        sym (test_is own goal r r begun refl)
+        ∙ ap (λ path. begins path goal) own_path ∙ ap (begins top.path) goal_path
+        ∙ sym (into_is tree page target position top beside (subst ArePages same are) (ap (row_with page)
+        (sym same) ∙ e) (ap (row_with target) (sym same) ∙ f) moves)
 
 -- each place needs the step behind the last kid
 pub full_is : (tree : Forest Body) (parent : ℕ) (place : Place) →

@@ -16,11 +16,11 @@ use Rattle.page_store.proofs.AllLemmas.{All-append}
 use Rattle.page_store.proofs.PathOrder.{begins-from_test}
 use Rattle.page_store.proofs.RangeLemmas.{All-at}
 use Rattle.page_store.proofs.WindowLemmas.{there_is}
-use Rattle.path_moves.specs.Cuts.{other_rows, raised_path}
+use Rattle.tree_rows.specs.Cuts.{other_rows, raised_path}
 use Rattle.path_moves.specs.Spots.{rows_between, moved_pair, raised_pair, FitBelow, GoesUp}
-use Rattle.path_moves.proofs.Lists.{All-parts, slice_get-drop, slice_get-window, slice_get-append}
+use Rattle.tree_rows.proofs.Lists.{All-parts, slice_get-drop, slice_get-window, slice_get-append}
 use Rattle.path_moves.proofs.GraftLemmas.{raised_path-append}
-use Rattle.path_moves.proofs.SubtreeLemmas.{found_at_place, range_some}
+use Rattle.tree_rows.proofs.SubtreeLemmas.{found_at_place, range_some}
 use Rattle.path_moves.proofs.Windows.{between, between_split, between_next, between_last, take_last}
 
 -- a page with its path

@@ -12,9 +12,9 @@ use Rattle.page_store.specs.Search.{begins}
 use Rattle.page_store.proofs.PathOrder.{begins-self, begins-BeginsWith, BeginsWith-begins}
 use Rattle.page_store.proofs.AllLemmas.{All-weaker}
 use Rattle.page_store.proofs.RangeLemmas.{pairs_at, drop_at_place}
-use Rattle.path_moves.specs.Cuts.{lower_row, end_of, place_of}
-use Rattle.path_moves.proofs.Lists.{filter_middle}
-use Rattle.path_moves.proofs.SubtreeLemmas.{fails_from}
+use Rattle.tree_rows.specs.Cuts.{lower_row, end_of, place_of}
+use Rattle.tree_rows.proofs.Lists.{filter_middle}
+use Rattle.tree_rows.proofs.SubtreeLemmas.{fails_from}
 use Rattle.path_moves.proofs.LawLemmas.{leading-front, other_id}
 use Rattle.path_moves.proofs.Windows.{between, failing, Passes, between_next, two_splits, take_last, take_split, All-narrower}
 

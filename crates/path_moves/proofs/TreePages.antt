@@ -17,9 +17,9 @@ use Rattle.tree_model.specs.Shape.{AreWithin}
 use Rattle.page_store.specs.Pages.{Page, EachPair, IsBefore, HasOtherId, StartsAtRoot}
 use Rattle.page_store.proofs.AllLemmas.{All-append, All-weaker}
 use Rattle.page_store.proofs.WindowLemmas.{comes_before-behind}
-use Rattle.path_moves.proofs.Apart.{Lacks, AreApart, rows_ids, rows_parents}
-use Rattle.path_moves.proofs.Lists.{All-parts, All-turned}
-use Rattle.path_moves.proofs.Paths.{GoesOn, rows_go_on}
+use Rattle.tree_rows.proofs.Apart.{Lacks, AreApart, rows_ids, rows_parents}
+use Rattle.tree_rows.proofs.Lists.{All-parts, All-turned}
+use Rattle.tree_rows.proofs.Paths.{GoesOn, rows_go_on}
 
 -- pairs within two lists and across them are the pairs of both
 pub EachPair-append : (R : Page → Page → Type 0) (xs ys : List Page) → EachPair R xs →

@@ -18,8 +18,8 @@ use Rattle.page_store.specs.Pages.{Page, EachPair, IsBefore}
 use Rattle.page_store.proofs.AllLemmas.{All-append, All-both, All-weaker}
 use Rattle.page_store.proofs.InsertLemmas.{same_bytes, bytes_eq-self}
 use Rattle.page_store.proofs.PathOrder.{comes_before-self}
-use Rattle.path_moves.proofs.Apart.{Lacks, AreApart, kids_of-lacks, lacks_after}
-use Rattle.path_moves.proofs.Lists.{All-parts}
+use Rattle.tree_rows.proofs.Apart.{Lacks, AreApart, kids_of-lacks, lacks_after}
+use Rattle.tree_rows.proofs.Lists.{All-parts}
 use Rattle.path_moves.proofs.LawLemmas.{block_in}
 
 -- paths in order differ

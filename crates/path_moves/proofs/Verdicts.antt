@@ -29,11 +29,11 @@ use Rattle.path_moves.specs.declared.fault.PathFault.TheVariants.{StepsFull, Too
 use Rattle.path_moves.specs.declared.spot.Spot.{Spot}
 use Rattle.path_moves.specs.declared.spot.Spot.TheVariants.{Before as AtPlace, End as AtEnd}
 use Rattle.path_moves.specs.declared.standing.Standing.{Standing}
-use Rattle.path_moves.specs.Subtree.{last_of, step_after}
-use Rattle.path_moves.specs.Cuts.{other_rows}
+use Rattle.tree_rows.specs.Subtree.{last_of, step_after}
+use Rattle.tree_rows.specs.Cuts.{other_rows}
 use Rattle.path_moves.specs.Plans.{planned_move}
 use Rattle.path_moves.specs.Spots.{spot_for, place_past, place_of_spot, place_without, last_place, path_of_spot, rows_between, moved_pair, raised_pair, FitBelow, GoesUp}
-use Rattle.path_moves.proofs.SubtreeLemmas.{range_some}
+use Rattle.tree_rows.proofs.SubtreeLemmas.{range_some}
 use Rattle.path_moves.proofs.Windows.{between, failing, Passes, between_none, fails_outside, passes_inside, none_fails, last_failing}
 use Rattle.path_moves.proofs.Remaining.{found_id}
 use Rattle.path_moves.proofs.Landing.{together, last_kid}

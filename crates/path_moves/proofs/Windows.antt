@@ -5,10 +5,10 @@ use Rattle.std.specs.List.{AllByRecursion}
 use Rattle.std.proofs.lemmas.Bool.{cases_lt}
 use Rattle.std.proofs.lemmas.List.{append-nil, drop-drop, take-append-drop, length-take-le}
 use Rattle.std.proofs.lemmas.List.Elements.{filter-append}
-use Rattle.path_moves.specs.Subtree.{last_of}
+use Rattle.tree_rows.specs.Subtree.{last_of}
 use Rattle.page_store.proofs.AllLemmas.{All-weaker}
 use Rattle.page_store.proofs.RangeLemmas.{drop_at_place}
-use Rattle.path_moves.proofs.Lists.{All-parts, filter_all, filter_none, last_of-push}
+use Rattle.tree_rows.proofs.Lists.{All-parts, filter_all, filter_none, last_of-push}
 
 module _ {X : Type 0} where
   -- the elements from one place up to another

@@ -7,8 +7,8 @@ use Rattle.page_tree.specs.Tree.{Forest, bare, grown, First, Before, End, AreRis
 use Rattle.page_tree.specs.Rows.{Row, child_url, row_with, rows_below, rows_of, raise_count}
 use Rattle.site_types.specs.declared.body.Body.{Body}
 use Rattle.tree_model.specs.Changes.{changed_urls, with_urls}
-use Rattle.path_moves.specs.Subtree.{subtree_rows}
-use Rattle.path_moves.specs.Cuts.{cut_rows, moved_rows, put_behind, put_from, place_of, is_sibling}
+use Rattle.tree_rows.specs.Subtree.{subtree_rows}
+use Rattle.tree_rows.specs.Cuts.{cut_rows, moved_rows, put_behind, put_from, place_of, is_sibling}
 
 -- a page of a store
 abbrev pub Page : Type 0

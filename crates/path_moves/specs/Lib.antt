@@ -1,8 +1,5 @@
 pub mod Append
-pub mod Subtree
-pub mod Cuts
 pub mod Laws
 pub mod Plans
 pub mod Spots
 pub mod Applying
-pub mod Samples

@@ -8,7 +8,7 @@ use Rattle.tree_model.specs.Places.{parent_at, place_at, moved_to, leads_into_it
 use Rattle.tree_model.specs.Limits.{is_full, is_too_deep}
 use Rattle.tree_model.specs.Changes.{changed_paths}
 use Rattle.page_store.specs.declared.plan.MovePlan.{MovePlan}
-use Rattle.path_moves.specs.Cuts.{place_of}
+use Rattle.tree_rows.specs.Cuts.{place_of}
 use Rattle.path_moves.specs.declared.fault.PathFault.{PathFault}
 use Rattle.path_moves.specs.declared.fault.PathFault.TheVariants.{IntoItself, StepsFull, TooDeep, Memory}
 

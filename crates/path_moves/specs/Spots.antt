@@ -12,7 +12,7 @@ use Rattle.page_store.specs.Pages.{Page}
 use Rattle.path_moves.specs.declared.standing.Standing.{Standing}
 use Rattle.path_moves.specs.declared.spot.Spot.{Spot}
 use Rattle.path_moves.specs.declared.spot.Spot.TheVariants.{First, Before, End}
-use Rattle.path_moves.specs.Cuts.{raised_path}
+use Rattle.tree_rows.specs.Cuts.{raised_path}
 
 -- a page's path, and the range of its rows
 pub record IsStanding (pages : List Page) (row : Page) (standing : Standing) : Type 0 where

@@ -5,7 +5,7 @@ ghost use Rattle.page_tree.specs.Tree.{Forest};
 ghost use Rattle.page_tree.specs.Rows.{row_with, rows_of};
 ghost use Rattle.site_types.specs.declared.body.Body.{Body as PageBody};
 ghost use Rattle.path_moves.specs.Append.{path_below, appended_path};
-ghost use Rattle.path_moves.specs.Subtree.{step_after};
+ghost use Rattle.tree_rows.specs.Subtree.{step_after};
 
 use crate::PathFault;
 use crate::look::{last_path, path_of};

@@ -29,7 +29,7 @@ fn ids_between(alloc: Global, rows: &Rows, place: usize, count: usize) -> Result
     ensures { IfOk result (λ ids. ids.items ≡ map (λ row. row.id) (take count (drop place rows.now.pages))) }
 {
     let _len = rows.len();
-    let mut ids = Vec::new(alloc);
+    let mut ids = Vec::with_capacity(alloc, count)?;
     for done in 0..count {
         let Some(id) = rows.at(place + done) else {
             unreachable!();

@@ -6,6 +6,7 @@ mod append;
 mod applying;
 mod delete;
 mod fault;
+mod into;
 pub mod laws;
 mod look;
 mod moving;
@@ -17,9 +18,5 @@ pub use append::plan_append;
 pub use applying::apply;
 pub use delete::plan_delete;
 pub use fault::PathFault;
-pub use moving::{is_beside, new_parent, plan_move};
-
-#[cfg(test)]
-mod tests;
-#[cfg(test)]
-mod tests_apply;
+pub use into::leads_into_itself;
+pub use moving::plan_move;

@@ -3,7 +3,7 @@ ghost use Rattle.std.specs.Prelude.{◌≡◌, Some};
 ghost use Rattle.std.specs.Option.{option_map};
 ghost use Rattle.page_tree.specs.Rows.{row_with};
 ghost use Rattle.page_store.specs.Pages.{Page, ArePages};
-ghost use Rattle.path_moves.specs.Subtree.{last_of, subtree_rows};
+ghost use Rattle.tree_rows.specs.Subtree.{last_of, subtree_rows};
 
 use page_store::Rows;
 use site_types::PageId;

@@ -9,9 +9,9 @@ ghost use Rattle.step_path.specs.Path.{BeginsWith};
 ghost use Rattle.site_types.specs.declared.body.Body.{Body as PageBody};
 ghost use Rattle.tree_model.specs.Places.{is_beside, stays_put};
 ghost use Rattle.page_store.specs.Pages.{Page};
-ghost use Rattle.path_moves.specs.Cuts.{other_rows};
+ghost use Rattle.tree_rows.specs.Cuts.{other_rows};
 ghost use Rattle.path_moves.specs.Plans.{UnlessMemory, planned_move};
-ghost use Rattle.path_moves.specs.Subtree.{step_after};
+ghost use Rattle.tree_rows.specs.Subtree.{step_after};
 ghost use Rattle.path_moves.specs.Spots.{last_place, path_of_spot, rows_between, moved_pair, raised_pair, FitBelow, GoesUp};
 ghost use Rattle.path_moves.specs.declared.fault.PathFault.TheVariants.{StepsFull, TooDeep, Memory};
 
@@ -20,7 +20,7 @@ use crate::append::next_step;
 use crate::relabel::{list_moved, list_raised};
 use crate::spot::{Spot, last_place, place_of_spot, place_past, place_without, spot_for};
 use crate::standing::{Standing, find, row_at};
-use page_store::{MovePlan, Relabels, Rows};
+use page_store::{MovePlan, Relabels, Rows, new_parent};
 use site_types::{PageId, Position};
 use std::alloc::Global;
 use step_path::{Path, Step};
@@ -71,35 +71,6 @@ pub fn plan_move(
             rows: changed,
         }),
         Err(fault) => Err(fault),
-    }
-}
-
-/// The page that a position leads below: the target, or the page above it. One look-up at most.
-pub fn new_parent(rows: &Rows, target: PageId, position: Position) -> PageId
-    requires target_there { IsSome (row_with target rows.now.pages) }
-    requires below_root { is_beside position ≡ true → target ≡ 1 → ⊥ }
-    ensures there { IsSome (row_with result rows.now.pages) }
-    ensures value { result ≡ (if is_beside position
-        then unwrap_or (option_and_then (λ row. row.parent) (row_with target rows.now.pages)) 0 else target) }
-{
-    if is_beside(position) {
-        let _len = rows.len();
-        let Some(parent) = rows.parent(target) else {
-            unreachable!();
-        };
-        parent
-    } else {
-        target
-    }
-}
-
-/// Whether a position is among the target's siblings.
-pub fn is_beside(position: Position) -> bool
-    ensures { result ≡ is_beside position }
-{
-    match position {
-        Position::FirstChild | Position::LastChild => false,
-        Position::FirstSibling | Position::Left | Position::Right | Position::LastSibling => true,
     }
 }
 
@@ -160,8 +131,7 @@ fn changes(
         ⊎ ((fault ≡ StepsFull) × (AllByRecursion (λ row. GoesUp above.now row.path)
         (other_rows own.now.path (rows_between from end rows.now.pages)) → ⊥)))) }
 {
-    let more = end.saturating_sub(from);
-    let Ok(mut list) = Vec::with_capacity(alloc, own.count.saturating_add(more)) else {
+    let Ok(mut list) = Vec::with_capacity(alloc, listed(own, path, from, end)) else {
         return Err(PathFault::Memory);
     };
     if own.path != *path {
@@ -174,4 +144,18 @@ fn changes(
         Ok(()) => Ok(Relabels::from_vec(list)),
         Err(fault) => Err(fault),
     }
+}
+
+/// How many pages are listed: those that move, unless their paths stay, and those between two places
+/// that do not move.
+fn listed(own: &Standing, path: &Path, from: usize, end: usize) -> usize {
+    let moved = if own.path == *path { 0 } else { own.count };
+    let between = end.saturating_sub(from);
+    let inside = from <= own.place && own.place < end;
+    let raised = if inside {
+        between.saturating_sub(own.count)
+    } else {
+        between
+    };
+    moved.saturating_add(raised)
 }

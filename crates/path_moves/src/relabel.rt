@@ -3,7 +3,7 @@ ghost use Rattle.std.specs.Prelude.{◌≡◌, ◌+◌, ◌≤◌, ◌<◌, ◌�
 ghost use Rattle.std.specs.List.{AllByRecursion};
 ghost use Rattle.step_path.specs.Path.{BeginsWith};
 ghost use Rattle.path_moves.specs.declared.fault.PathFault.TheVariants.{StepsFull, TooDeep, Memory};
-ghost use Rattle.path_moves.specs.Cuts.{other_rows, raised_path};
+ghost use Rattle.tree_rows.specs.Cuts.{other_rows, raised_path};
 ghost use Rattle.path_moves.specs.Spots.{rows_between, moved_pair, raised_pair, FitBelow, GoesUp};
 
 use crate::PathFault;

@@ -1,7 +1,7 @@
 //! Cards of pages.
 use site_types::{Blocks, Body, Moment, PageId, PathText, Slug, Text, Url};
 
-/// All that is told of a page: its row, its URL and what it shows.
+/// What a card says of a page: its row, its URL and what it shows.
 #[derive(Debug, Drop)]
 pub struct Card {
     /// The page's number.

@@ -5,3 +5,5 @@ pub mod CutLemmas
 pub mod SeenLemmas
 pub mod AddLemmas
 pub mod RemoveLemmas
+pub mod PagesLemmas
+pub mod ChainLemmas

@@ -47,3 +47,8 @@ pub record IsKept (stored : List (ℕ × Kept)) (newest : List (ℕ × ℕ)) (or
       kept.previous ≡ latest_of kept.revision.page (below id revisions))
   pub weighs : weight ≡ total_weight revisions
   pub rises : Rises 0 revisions
+
+-- The same, where the ids in their order are those of the revisions.
+abbrev pub IsChained : List (ℕ × Kept) → List (ℕ × ℕ) → ℕ → List Revision → Type 0
+IsChained stored newest weight revisions =
+    IsKept stored newest (map (λ revision. revision.id) revisions) weight revisions

@@ -1,5 +1,6 @@
 -- What the shelf is seen as: the revisions of all pages, rising by id.
 use Rattle.std.specs.Prelude.{ℕ, ◌+◌, ◌<◌, ◌≤◌, Bool, not, nat_eq, if◌then◌else◌, Option, Some, None, List, [], ◌∷◌, length, find, filter}
+use Rattle.std.specs.List.{list_any}
 use Rattle.std.specs.Option.{option_or}
 use Rattle.site_types.specs.Content.{content_form}
 use Rattle.site_types.specs.declared.revision.Revision.{Revision}
@@ -33,6 +34,11 @@ latest_of page (revision ∷ revisions) =
 -- the revisions of all other pages
 abbrev pub without_page : ℕ → List Revision → List Revision
 without_page page revisions = filter (λ revision. not (nat_eq revision.page page)) revisions
+
+-- the revisions of all pages but these
+abbrev pub without_pages : List ℕ → List Revision → List Revision
+without_pages pages revisions =
+    filter (λ revision. not (list_any (λ page. nat_eq page revision.page) pages)) revisions
 
 -- the ids rise from above this number to the last one there is, and each content is within its limit
 abbrev pub Rises : ℕ → List Revision → Type 0

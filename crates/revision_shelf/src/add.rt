@@ -13,9 +13,10 @@ use std::alloc::Global;
 use std::hash::Hash;
 
 impl Shelf {
-    /// The shelf without revisions. It takes no memory.
+    /// The shelf without revisions and without room. It takes no memory.
     pub fn new(alloc: Global) -> Shelf
-        ensures { result.revisions ≡ [] }
+        ensures revisions { result.revisions ≡ [] }
+        ensures spare { result.spare ≡ 0 }
     {
         Shelf {
             stored: IndexMap::new(alloc),
@@ -25,12 +26,14 @@ impl Shelf {
         }
     }
 
-    /// Makes room for `more` revisions, so that as many can be added without memory.
+    /// Makes room for `more` revisions, so that as many can be added without memory. The room never
+    /// shrinks, if memory runs out either.
     ///
-    /// It costs nothing where the room is there, and else a copy of what is kept.
+    /// It costs nothing if the room is there, and otherwise a copy of what is kept.
     pub fn reserve(&mut self, more: usize) -> Result<(), NoMemory>
         ensures revisions { self.new.revisions ≡ self.old.revisions }
         ensures ok { OnOk result (more ≤ self.new.spare) }
+        ensures spare { self.old.spare ≤ self.new.spare }
     {
         self.stored.reserve(more)?;
         self.newest.reserve(more)?;

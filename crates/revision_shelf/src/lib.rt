@@ -2,11 +2,9 @@
 #![tactic(auto)]
 
 mod add;
+mod chain;
 mod look_up;
 mod remove;
 mod shelf;
 
 pub use shelf::Shelf;
-
-#[cfg(test)]
-mod tests;

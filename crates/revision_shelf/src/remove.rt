@@ -1,27 +1,69 @@
-//! Taking a page's revisions out.
-ghost use Rattle.std.specs.Prelude.{◌≡◌, ℕ, ◌<◌, ◌≤◌, Bool, not, Some, None, IsSome, IsTrue, IsFalse, is_some, nat_eq, if◌then◌else◌};
+//! Taking the revisions of pages out.
+ghost use Rattle.std.specs.Prelude.{◌≡◌, ◌<◌, ◌≤◌, not, IsTrue, IsFalse, is_some, nat_eq};
 ghost use Rattle.std.specs.Prelude.{length, filter, vec_len, vec_capacity};
+ghost use Rattle.std.specs.List.{AllByRecursion};
 ghost use Rattle.std.specs.Map.{lookup};
-ghost use Rattle.indexmap.specs.IndexMap.{UpdatesBy, spare};
-ghost use Rattle.revision_shelf.specs.Shelf.{without_page};
+ghost use Rattle.site_types.specs.Ids.{IsPageId};
+ghost use Rattle.revision_shelf.specs.Shelf.{without_page, without_pages};
 ghost use Rattle.revision_shelf.specs.Kept.{without_latest, IdsRise};
 
 use crate::Shelf;
+use crate::chain::{page_of, take_newest, take_pages};
 use crate::shelf::Kept;
 use indexmap::IndexMap;
 use site_types::{PageId, RevisionId};
-use std::hash::Hash;
+
+/// From so many pages on, their revisions' ids go in one pass: it costs about as much as moving the
+/// ids after each of so many revisions.
+const FEW_PAGES: usize = 64;
 
 impl Shelf {
     /// Takes all revisions of a page out.
     ///
     /// Each that goes takes three look-ups, compares as many ids as the number of revisions has
-    /// binary digits, and moves four bytes for each id behind it.
+    /// binary digits, and moves four bytes for each id after it.
     pub fn drop_page(&mut self, page: PageId)
         ensures revisions { self.new.revisions ≡ without_page page self.old.revisions }
         ensures spare { self.old.spare ≤ self.new.spare }
     {
         while self.take_latest(page) {}
+    }
+
+    /// Takes all revisions of the pages with these ids out.
+    ///
+    /// A few pages go one by one, as by `drop_page`. For more, each revision that goes takes three
+    /// look-ups, and then one pass takes one look-up for each id.
+    pub fn drop_pages(&mut self, pages: &[u32])
+        requires { AllByRecursion IsPageId pages.now }
+        ensures revisions { self.new.revisions ≡ without_pages pages.now self.old.revisions }
+        ensures spare { self.old.spare ≤ self.new.spare }
+    {
+        if pages.len() < FEW_PAGES {
+            self.drop_one_by_one(pages);
+        } else {
+            self.drop_together(pages);
+        }
+    }
+
+    /// Takes the revisions of pages out, page by page.
+    fn drop_one_by_one(&mut self, pages: &[u32])
+        requires { AllByRecursion IsPageId pages.now }
+        ensures revisions { self.new.revisions ≡ without_pages pages.now self.old.revisions }
+        ensures spare { self.old.spare ≤ self.new.spare }
+    {
+        for number in pages {
+            self.drop_page(page_of(*number));
+        }
+    }
+
+    /// Takes the revisions of pages out, and then their ids in one pass.
+    fn drop_together(&mut self, pages: &[u32])
+        requires { AllByRecursion IsPageId pages.now }
+        ensures revisions { self.new.revisions ≡ without_pages pages.now self.old.revisions }
+        ensures spare { self.old.spare ≤ self.new.spare }
+    {
+        take_pages(&mut self.stored, &mut self.newest, &mut self.weight, pages);
+        keep_stored(&mut self.order, &self.stored);
     }
 
     /// Takes the newest revision of a page out, or answers that there is none.
@@ -32,50 +74,14 @@ impl Shelf {
         ensures none { IsFalse result → without_page page self.new.revisions ≡ self.new.revisions }
         ensures spare { self.old.spare ≤ self.new.spare }
     {
-        let Some(id) = self.newest.get(&page).copied() else {
-            return false;
-        };
-        let Some(kept) = self.stored.swap_remove(&id) else {
-            unreachable!();
-        };
-        self.weight -= kept.revision.content.form_length();
-        set_newest(&mut self.newest, page, kept.previous);
-        cut(&mut self.order, id);
-        true
+        match take_newest(&mut self.stored, &mut self.newest, &mut self.weight, page) {
+            Some(id) => {
+                cut(&mut self.order, id);
+                true
+            }
+            None => false,
+        }
     }
-}
-
-/// Makes another revision the newest of a page that has one, or takes the page out.
-fn set_newest(newest: &mut IndexMap<PageId, RevisionId>, page: PageId, id: Option<RevisionId>)
-    requires { IsSome (lookup (nat_eq page) newest.old.entries) }
-    ensures pages { (other : ℕ) → lookup (nat_eq other) newest.new.entries
-        ≡ (if nat_eq page other then id else lookup (nat_eq other) newest.old.entries) }
-    ensures spare { spare newest.old ≤ spare newest.new }
-{
-    match id {
-        Some(id) => set(newest, page, id),
-        None => take_out(newest, &page),
-    }
-}
-
-/// Makes another revision the newest of a page that has one.
-fn set(newest: &mut IndexMap<PageId, RevisionId>, page: PageId, id: RevisionId)
-    requires { IsSome (lookup (nat_eq page) newest.old.entries) }
-    ensures pages { (other : ℕ) → lookup (nat_eq other) newest.new.entries
-        ≡ (if nat_eq page other then Some id else lookup (nat_eq other) newest.old.entries) }
-    ensures spare { spare newest.new ≡ spare newest.old }
-{
-    if let Some(place) = newest.get_mut(&page) {
-        *place = id;
-    }
-}
-
-/// Takes a key out of a map, where it is there.
-fn take_out<K: Eq + Hash + Drop, V: Drop>(map: &mut IndexMap<K, V>, key: &K)
-    ensures updates { UpdatesBy K.eq (K.eq key.now) map.old map.new None }
-    ensures spare { spare map.old ≤ spare map.new }
-{
-    let _ = map.swap_remove(key);
 }
 
 /// Takes an id out of ids that rise.
@@ -88,4 +94,14 @@ fn cut(order: &mut Vec<RevisionId>, id: RevisionId)
     if let Ok(place) = order.binary_search(&id) {
         order.remove(place);
     }
+}
+
+/// Keeps the ids of revisions that are there.
+fn keep_stored(order: &mut Vec<RevisionId>, stored: &IndexMap<RevisionId, Kept>)
+    ensures items { order.new.items
+        ≡ filter (λ id. is_some (lookup (nat_eq id) stored.now.entries)) order.old.items }
+    ensures len { vec_len order.new ≤ vec_len order.old }
+    ensures capacity { vec_capacity order.new ≡ vec_capacity order.old }
+{
+    order.retain(|id| stored.contains_key(id));
 }

@@ -8,7 +8,6 @@ use Rattle.page_tree.specs.Rows.{rows_below, rows_of, row_with, child_url}
 use Rattle.page_tree.specs.Walk.{SLASH}
 use Rattle.page_tree.proofs.RowLemmas.{find-append}
 use Rattle.site_ids.specs.Slug.{IsSlug}
-use Rattle.site_types.specs.RootBody.{root_body}
 use Rattle.site_types.specs.declared.body.Body.{Body}
 use Rattle.site_types.specs.declared.page_row.PageRow.{PageRow}
 use Rattle.tree_model.specs.Shape.{AllPages}
@@ -25,8 +24,8 @@ use Rattle.slug_urls.specs.Descent.{page_below}
 use Rattle.slug_urls.proofs.Descents.{reached}
 use Rattle.slug_urls.proofs.TreeUrls.{urls_of_tree}
 use Rattle.site_model.specs.World.{TreePart}
-use Rattle.site_model.specs.Rights.{first_body, body_of, is_live, is_public}
-use Rattle.site_model.specs.Sound.{IsSound}
+use Rattle.site_model.specs.Views.{first_body, body_of, is_live, is_public}
+use Rattle.site_model.specs.Sound.{IsTree}
 use Rattle.site_core.specs.Finding.{live_at}
 
 -- what holds of each page holds of its row
@@ -44,11 +43,11 @@ rows_all P parent path url (grown i s slug body kids rest) all = (
 )
 
 -- no page below the root is the root, so that each has a slug
-slugs_below : (kids : Forest Body) →
-    AllPages (λ id slug body. (id ≡ 1 → ⊥) → IsSlug slug) (grown 1 1 [] root_body kids bare) →
-    count 1 (grown 1 1 [] root_body kids bare) ≤ 1 →
-    HaveSlugs (rows_of (grown 1 1 [] root_body kids bare))
-slugs_below kids all few = (
+slugs_below : (own : Body) (kids : Forest Body) →
+    AllPages (λ id slug body. (id ≡ 1 → ⊥) → IsSlug slug) (grown 1 1 [] own kids bare) →
+    count 1 (grown 1 1 [] own kids bare) ≤ 1 →
+    HaveSlugs (rows_of (grown 1 1 [] own kids bare))
+slugs_below own kids all few = (
   (λ some. absurd (search (rules, some))),
   All-append (λ (row : Page). IsSome row.parent → IsSlug row.slug)
       (rows_below (Some 1) ([] ++ 1 ∷ []) (child_url [] []) kids) [] (
@@ -71,13 +70,13 @@ slugs_below kids all few = (
         let here = subst (λ i. 1 ≤ count i kids) same some in omega (arith, here, none)
 
 -- the pages of a sound world have slugs
-pub have_slugs : (part : TreePart) → IsSound part → (pages : List Page) → pages ≡ rows_of part.tree →
+pub have_slugs : (part : TreePart) → IsTree part.tree part.next_page → (pages : List Page) → pages ≡ rows_of part.tree →
     HaveSlugs pages
 have_slugs part sound pages is =
     subst HaveSlugs (sym is)
     (subst (λ tree. AllPages (λ id slug body. (id ≡ 1 → ⊥) → IsSlug slug) tree →
     count 1 tree ≤ 1 → HaveSlugs (rows_of tree)) (sym sound.whole.is)
-    (slugs_below sound.whole.kids) sound.slugs (once part.tree sound.distinct 1))
+    (slugs_below sound.whole.own sound.whole.kids) sound.slugs (once part.tree sound.distinct 1))
 
 -- what is kept of the first page of two lists of pages
 first_or : (a b : Forest Body) →

@@ -1,15 +1,10 @@
 pub mod CardLemmas
 pub mod LookUpLemmas
 pub mod FindLemmas
-pub mod ListedUrls
-pub mod CreationDone
-pub mod MoveDone
 pub mod SlugRows
-pub mod SlugDone
 pub mod DropLemmas
-pub mod DeletionDone
-pub mod PeopleDone
-pub mod CommitLemmas
+pub mod MoveCall
+pub mod GroupLemmas
 pub mod PrepareLemmas
 pub mod PeoplePlans
 pub mod PeopleRights

@@ -4,7 +4,7 @@ use Rattle.std.specs.Option.{option_map}
 use Rattle.page_tree.specs.Tree.{Forest}
 use Rattle.page_tree.specs.Rows.{rows_of}
 use Rattle.site_types.specs.declared.body.Body.{Body}
-use Rattle.site_model.specs.Rights.{is_live}
+use Rattle.site_model.specs.Views.{is_live}
 
 -- the page with this URL, where there is one and it is live
 abbrev pub live_at : Forest Body → List ℕ → Option ℕ

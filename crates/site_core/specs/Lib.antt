@@ -1,5 +1,5 @@
-pub mod Changing
 pub mod Ending
 pub mod Finding
+pub mod Groups
 pub mod People
 pub mod Standing

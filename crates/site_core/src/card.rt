@@ -4,7 +4,7 @@ ghost use Rattle.std.specs.Option.{option_copied};
 ghost use Rattle.page_tree.specs.Rows.{Row};
 ghost use Rattle.page_store.specs.PageRows.{page_row};
 ghost use Rattle.site_types.specs.declared.body.Body.{Body};
-ghost use Rattle.wire_model.specs.Cards.{card_showing, content_shown};
+ghost use Rattle.sight_model.specs.Cards.{card_showing, content_shown};
 
 use public_view::Card;
 use site_types::{Blocks, Moment, NoMemory, PageRow, Revision, Text, Url};

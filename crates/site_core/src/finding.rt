@@ -4,8 +4,8 @@ ghost use Rattle.page_tree.specs.Tree.{Forest};
 ghost use Rattle.page_tree.specs.Rows.{Row, rows_of, row_with};
 ghost use Rattle.site_types.specs.declared.body.Body.{Body as PageBody};
 ghost use Rattle.slug_urls.specs.Urls.{HaveSlugs};
-ghost use Rattle.site_model.specs.Rights as rights;
-ghost use Rattle.site_model.specs.Rights.{body_of};
+ghost use Rattle.site_model.specs.Views as views;
+ghost use Rattle.site_model.specs.Views.{body_of};
 ghost use Rattle.site_core.specs.Finding.{live_at};
 
 use page_store::Rows;
@@ -33,7 +33,7 @@ pub(crate) fn find_live(rows: &Rows, url: &[u8]) -> Option<PageId>
 /// Whether a page that is there is live: an alias is live where its source is.
 fn is_live(rows: &Rows, page: PageId) -> bool
     ensures { (tree : Forest PageBody) (row : Row PageBody) → rows.now.pages ≡ rows_of tree
-        → row_with page rows.now.pages ≡ Some row → result ≡ rights.is_live tree row.body }
+        → row_with page rows.now.pages ≡ Some row → result ≡ views.is_live tree row.body }
 {
     match rows.row(page) {
         None => false,
@@ -47,7 +47,7 @@ fn is_live(rows: &Rows, page: PageId) -> bool
 /// Whether a page is there and is live itself.
 fn is_public(rows: &Rows, page: PageId) -> bool
     ensures { (tree : Forest PageBody) → rows.now.pages ≡ rows_of tree
-        → result ≡ rights.is_public (body_of tree page) }
+        → result ≡ views.is_public (body_of tree page) }
 {
     match rows.row(page) {
         None => false,

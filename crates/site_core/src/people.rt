@@ -1,20 +1,23 @@
 //! Plans of the commands on users, groups, memberships and grants.
-ghost use Rattle.std.specs.Prelude.{◌≡◌, ℕ, true, false, not, nat_lt, length, max};
+ghost use Rattle.std.specs.Prelude.{◌≡◌, ℕ, false, not, nat_lt, length, max, Option};
 ghost use Rattle.std.specs.List.{list_any};
+ghost use Rattle.site_types.specs.Content.{ContentValue};
 ghost use Rattle.site_types.specs.declared.permission.Permission.{Permission as AnyPermission};
 ghost use Rattle.site_types.specs.declared.command.Command.TheVariants as commands;
 ghost use Rattle.site_model.specs.World as worlds;
-ghost use Rattle.site_model.specs.Needs as needs;
-ghost use Rattle.site_model.specs.Users.{agree, is_given, is_grant, grants_after, MAX_GRANTS as grants_limit};
-ghost use Rattle.grants.specs.Needs.{NamesPages};
+ghost use Rattle.site_model.specs.Limits.{MAX_GRANTS as grants_limit};
+ghost use Rattle.site_model.specs.Rules.{is_given};
+ghost use Rattle.site_model.specs.Users.{agree, is_grant, grants_after};
 ghost use Rattle.grants.specs.Plans.{Prepares};
 ghost use Rattle.grants.specs.Standing.{IsReady, IsSame};
-ghost use Rattle.site_core.specs.People.{IsAllowed, ReadiesPlan, is_on_people, missing_page, denial_told};
+ghost use Rattle.site_core.specs.Groups.{group_of};
+ghost use Rattle.site_core.specs.People.{IsAllowed, ReadiesPlan};
+ghost use Rattle.site_core.specs.declared.group.Group.TheVariants as groups;
 
-use grants::{Change, Fault, Plan, TreePart, may};
+use grants::{Change, Fault, PeopleChange, Plan, TreePart, front};
 use site_ids::{LAST_GROUP_ID, LAST_USER_ID};
 use site_types::{
-    Command, Digest, GroupId, Ids, Moment, NameKind, PageId, Permission, Refusal, Reply, UserId,
+    Command, Digest, GroupId, Moment, NameKind, PageId, Permission, Refusal, Reply, UserId,
 };
 use std::alloc::Global;
 
@@ -22,7 +25,7 @@ use std::alloc::Global;
 const MAX_GRANTS: usize = 4_294_967_295;
 
 /// The plan of a command on users and groups by a user at a moment, or why it is refused: the first
-/// of its rules that refuses it, in the order of their numbers, or want of memory. It changes nothing
+/// of its rules that refuses it, in the order of their numbers, or out of memory. It changes nothing
 /// but spare room.
 ///
 /// It costs a few look-ups and searches.
@@ -33,19 +36,31 @@ pub(crate) fn prepare_people(
     caller: UserId,
     now: Moment,
 ) -> Result<Plan, Fault>
-    requires people { is_on_people command.now ≡ true }
+    requires people { group_of command.now ≡ groups.People }
     requires ready { (world : worlds.TreePart) × IsReady part.old world }
     ensures same { IsSame part.old part.new }
-    ensures plan { (world : worlds.TreePart) → IsReady part.old world
-        → Prepares world now caller command.now part.new result }
+    ensures plan { (world : worlds.TreePart) (desk : Option ContentValue) → IsReady part.old world
+        → Prepares world desk now caller command.now part.new result }
 {
-    if let Some(page) = missing_page(part, command) {
-        return Err(Fault::Refused(Refusal::NoPage(page)));
+    match front(part, caller, command) {
+        Ok(()) => plan_people(alloc, part, command, now),
+        Err(refusal) => Err(Fault::Refused(refusal)),
     }
-    match allowed(part, caller, command) {
-        Ok(()) => {}
-        Err(fault) => return Err(fault),
-    }
+}
+
+/// The plan of a command on users and groups that none of its first six rules refuses.
+fn plan_people(
+    alloc: Global,
+    part: &mut TreePart,
+    command: &Command,
+    now: Moment,
+) -> Result<Plan, Fault>
+    requires people { group_of command.now ≡ groups.People }
+    ensures same { IsSame part.old part.new }
+    ensures plan { (world : worlds.TreePart) (desk : Option ContentValue) (caller : ℕ)
+        → IsAllowed part.old world caller command.now
+        → Prepares world desk now caller command.now part.new result }
+{
     match command {
         Command::DefineUser { superuser, digest } => {
             plan_user(alloc, part, *superuser, digest, now)
@@ -62,32 +77,6 @@ pub(crate) fn prepare_people(
     }
 }
 
-/// The page that the command names, where there is no such page.
-fn missing_page(part: &TreePart, command: &Command) -> Option<PageId>
-    ensures { (world : worlds.TreePart) → IsReady part.now world
-        → result ≡ missing_page world.tree command.now }
-{
-    match command {
-        Command::Grant { page, .. } => match part.rows.row(*page) {
-            Some(_) => None,
-            None => Some(*page),
-        },
-        _ => None,
-    }
-}
-
-/// Whether a user may give a command, or the refusal by the first need that the user does not meet.
-fn allowed(part: &TreePart, caller: UserId, command: &Command) -> Result<(), Fault>
-    requires { (world : worlds.TreePart) × IsReady part.now world × NamesPages world.tree command.now }
-    ensures { (world : worlds.TreePart) → IsReady part.now world → NamesPages world.tree command.now
-        → result ≡ denial_told (needs.may world caller command.now) }
-{
-    match may(part, caller, command) {
-        Ok(()) => Ok(()),
-        Err(need) => Err(Fault::Refused(Refusal::Denied(need.number))),
-    }
-}
-
 /// The plan of a user more, whose token has this digest.
 fn plan_user(
     alloc: Global,
@@ -97,9 +86,9 @@ fn plan_user(
     now: Moment,
 ) -> Result<Plan, Fault>
     ensures same { IsSame part.old part.new }
-    ensures plan { (world : worlds.TreePart) (caller : ℕ)
+    ensures plan { (world : worlds.TreePart) (desk : Option ContentValue) (caller : ℕ)
         → IsAllowed part.old world caller (commands.DefineUser superuser digest.now)
-        → Prepares world now caller (commands.DefineUser superuser digest.now) part.new result }
+        → Prepares world desk now caller (commands.DefineUser superuser digest.now) part.new result }
 {
     if part.grants.user_with(digest).is_some() {
         return Err(Fault::Refused(Refusal::NothingNew));
@@ -108,25 +97,25 @@ fn plan_user(
     if LAST_USER_ID <= count {
         return Err(Fault::Refused(Refusal::IdsFull));
     }
-    let change = Change::DefineUser {
+    let people = PeopleChange::User {
         superuser,
         digest: *digest,
     };
-    ready_plan(alloc, part, now, Reply::Id(count + 1), change)
+    ready_plan(alloc, part, now, Reply::Id(count + 1), people)
 }
 
 /// The plan of a group more.
 fn plan_group(alloc: Global, part: &mut TreePart, now: Moment) -> Result<Plan, Fault>
     ensures same { IsSame part.old part.new }
-    ensures plan { (world : worlds.TreePart) (caller : ℕ)
+    ensures plan { (world : worlds.TreePart) (desk : Option ContentValue) (caller : ℕ)
         → IsAllowed part.old world caller commands.DefineGroup
-        → Prepares world now caller commands.DefineGroup part.new result }
+        → Prepares world desk now caller commands.DefineGroup part.new result }
 {
     let count = part.grants.group_count();
     if LAST_GROUP_ID <= count {
         return Err(Fault::Refused(Refusal::IdsFull));
     }
-    ready_plan(alloc, part, now, Reply::Id(count + 1), Change::DefineGroup)
+    ready_plan(alloc, part, now, Reply::Id(count + 1), PeopleChange::Group)
 }
 
 /// The plan of a membership that begins or ends.
@@ -139,9 +128,9 @@ fn plan_member(
     now: Moment,
 ) -> Result<Plan, Fault>
     ensures same { IsSame part.old part.new }
-    ensures plan { (world : worlds.TreePart) (caller : ℕ)
+    ensures plan { (world : worlds.TreePart) (desk : Option ContentValue) (caller : ℕ)
         → IsAllowed part.old world caller (commands.Member user group on)
-        → Prepares world now caller (commands.Member user group on) part.new result }
+        → Prepares world desk now caller (commands.Member user group on) part.new result }
 {
     if part.grants.is_member(user, group) == on {
         return Err(Fault::Refused(Refusal::NothingNew));
@@ -152,8 +141,8 @@ fn plan_member(
     if !has_group(part, group) {
         return Err(Fault::Refused(Refusal::NoName(NameKind::Group)));
     }
-    let change = Change::Member { user, group, on };
-    ready_plan(alloc, part, now, Reply::Done, change)
+    let people = PeopleChange::Member { user, group, on };
+    ready_plan(alloc, part, now, Reply::Done, people)
 }
 
 /// The plan of a grant that is given or withdrawn.
@@ -167,9 +156,9 @@ fn plan_grant(
     now: Moment,
 ) -> Result<Plan, Fault>
     ensures same { IsSame part.old part.new }
-    ensures plan { (world : worlds.TreePart) (caller : ℕ)
+    ensures plan { (world : worlds.TreePart) (desk : Option ContentValue) (caller : ℕ)
         → IsAllowed part.old world caller (commands.Grant group page permission on)
-        → Prepares world now caller (commands.Grant group page permission on) part.new result }
+        → Prepares world desk now caller (commands.Grant group page permission on) part.new result }
 {
     if part.grants.is_granted(group, page, permission) == on {
         return Err(Fault::Refused(Refusal::NothingNew));
@@ -180,13 +169,13 @@ fn plan_grant(
     if !has_room(part, on) {
         return Err(Fault::Refused(Refusal::IdsFull));
     }
-    let change = Change::Grant {
+    let people = PeopleChange::Grant {
         group,
         page,
         permission,
         on,
     };
-    ready_plan(alloc, part, now, Reply::Done, change)
+    ready_plan(alloc, part, now, Reply::Done, people)
 }
 
 /// Whether there is such a user.
@@ -221,21 +210,22 @@ fn ready_plan(
     part: &mut TreePart,
     now: Moment,
     reply: Reply,
-    change: Change,
+    people: PeopleChange,
 ) -> Result<Plan, Fault>
     ensures same { IsSame part.old part.new }
-    ensures plan { ReadiesPlan part.old part.new now reply change result }
+    ensures plan { ReadiesPlan part.old part.new now reply people result }
 {
     let Ok(()) = part.grants.reserve(1) else {
         return Err(Fault::Memory);
     };
-    Ok(Plan {
-        reply,
-        opened: None,
-        shut: Ids::from_vec(Vec::new(alloc)),
-        time: later(part.time, now),
-        change,
-    })
+    let change = Change::of_people(
+        alloc,
+        people,
+        later(part.time, now),
+        part.next_page,
+        part.next_revision,
+    );
+    Ok(Plan::quiet(alloc, reply, change))
 }
 
 /// The later of two moments.

@@ -2,7 +2,7 @@
 ghost use Rattle.std.specs.Prelude.{◌≡◌, IfOk, option_and_then};
 ghost use Rattle.std.specs.Option.{option_copied};
 ghost use Rattle.site_model.specs.World.{World};
-ghost use Rattle.wire_model.specs.Cards.{card_of, revision_with};
+ghost use Rattle.sight_model.specs.Cards.{card_of, revision_with};
 ghost use Rattle.grants.specs.Standing.{StandsFor};
 
 use crate::card::make_card;

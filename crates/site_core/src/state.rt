@@ -3,10 +3,10 @@ ghost use Rattle.std.specs.Prelude.{◌≡◌, ℕ, IfOk};
 ghost use Rattle.site_types.specs.declared.command.Command.{Command as AnyCommand};
 ghost use Rattle.site_model.specs.World.{World};
 ghost use Rattle.site_model.specs.Start.{new_world};
-ghost use Rattle.site_model.specs.Laws.{FitsCaller};
+ghost use Rattle.site_model.specs.Laws.{FitsCommand};
 ghost use Rattle.site_model.specs.Rights as rights;
 ghost use Rattle.sha2.specs.Sha256.{sha256};
-ghost use Rattle.wire_model.specs.Cards.{card_of, live_page};
+ghost use Rattle.sight_model.specs.Cards.{card_of, live_page};
 ghost use Rattle.grants.specs.Standing.{IsSame};
 ghost use Rattle.site_core.specs.Standing.{StandsFor, IsReady, Prepares, HasPlan};
 
@@ -18,7 +18,7 @@ use grants::{Fault, Grants, Plan, TreePart};
 use page_store::Rows;
 use public_view::Card;
 use revision_shelf::Shelf;
-use site_types::{Command, Digest, Moment, NoMemory, PageId, Reply, UserId};
+use site_types::{Command, Digest, Moment, NoMemory, PageId, Refusal, Reply, UserId};
 use std::alloc::Global;
 
 /// The site in memory.
@@ -53,7 +53,7 @@ impl Core {
 
     /// The plan of a command by a user at a moment, or why it is refused: the first of its rules that
     /// refuses it, in the order of their numbers, or want of memory. It changes nothing but spare
-    /// room.
+    /// room. No desk is open yet, so that saving one is refused.
     ///
     /// It costs what the command's rules and the memory for it cost.
     pub fn prepare(
@@ -63,11 +63,14 @@ impl Core {
         caller: UserId,
         now: Moment,
     ) -> Result<Plan, Fault>
-        requires { (world : World) × IsReady self.old world × FitsCaller command.now }
+        requires { (world : World) × IsReady self.old world × FitsCommand command.now }
         ensures same { IsSame self.old.tree self.new.tree }
-        ensures plan { (world : World) → IsReady self.old world → FitsCaller command.now
+        ensures plan { (world : World) → IsReady self.old world → FitsCommand command.now
             → Prepares world now caller command.now self.new result }
     {
+        if let Command::SaveDesk { .. } = command {
+            return Err(Fault::Refused(Refusal::NoDesk));
+        }
         prepare(alloc, &mut self.tree, command, caller, now, None)
     }
 

@@ -1,4 +1,4 @@
--- The error of calls that only want of memory can refuse.
+-- The error of calls that fail only when out of memory.
 use Rattle.site_ids.specs.declared.no_memory.NoMemory.{NoMemory}
 
 -- the one value of that error

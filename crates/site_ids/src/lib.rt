@@ -10,8 +10,6 @@ mod moment;
 mod no_memory;
 mod path_text;
 mod slug;
-#[cfg(test)]
-mod tests;
 mod text;
 mod texts;
 mod url;

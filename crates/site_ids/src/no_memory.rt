@@ -1,4 +1,4 @@
-//! The error of calls that only want of memory can refuse.
+//! The error of calls that fail only when out of memory.
 ghost use Rattle.std.specs.Prelude.{◌≡◌};
 
 use std::alloc::{AllocError, AllocFailed};

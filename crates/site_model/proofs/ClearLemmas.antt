@@ -1,5 +1,5 @@
--- What an accepted command tells: no rule refused it. And what lists keep.
-use Rattle.std.proofs.Common.{◌≡◌, ◌<◌, ◌≤◌, ℕ, Bool, true, false, cond, not, ◌||◌, List, [], ◌∷◌, ◌++◌, length, Option, Some, None, Ok, nat_eq, nat_lt, refl, arith}
+-- What rules tell that do not refuse, and what lists keep.
+use Rattle.std.proofs.Common.{◌≡◌, ◌<◌, ◌≤◌, ℕ, Bool, true, false, cond, not, ◌||◌, List, [], ◌∷◌, ◌++◌, length, Option, Some, None, nat_eq, nat_lt, refl, arith}
 use Rattle.std.specs.List.{AllByRecursion, list_any}
 use Rattle.std.specs.Option.{option_map}
 use Rattle.std.proofs.lemmas.Bool.Decides.{nat_tests}
@@ -8,21 +8,12 @@ use Rattle.page_tree.specs.Rows.{Row}
 use Rattle.site_types.specs.declared.body.Body.{Body}
 use Rattle.site_types.specs.declared.refusal.Refusal.{Refusal}
 use Rattle.site_types.specs.declared.refusal.Refusal.TheVariants.{SlugTaken}
-use Rattle.site_types.specs.declared.reply.Reply.{Reply}
 use Rattle.site_types.specs.declared.revision.Revision.{Revision}
-use Rattle.site_model.specs.World.{TreePart, Effect}
 use Rattle.tree_model.specs.Limits.{MAX_URL}
 use Rattle.site_model.specs.Rules.{refused_if, first_of}
-use Rattle.site_model.specs.Create.{unless_refused}
 use Rattle.tree_model.specs.Shape.{AllPages}
 use Rattle.site_model.specs.Sound.{IsGiven, IdsRise, is_own}
 use Rattle.tree_model.proofs.CountLemmas.{count}
-
--- no rule refused what was accepted
-pub not_refused : (refusal : Option Refusal) (part after : TreePart) (effect : Effect Reply)
-    (reply : Reply) → unless_refused refusal part reply ≡ Ok (after, effect) → refusal ≡ None
-not_refused (Some refusal) part after effect reply is = absurd (cc)
-not_refused None part after effect reply is = refl
 
 -- no rule refuses: neither the first nor a later one
 pub first_clear : (refusal : Option Refusal) (rules : List (Option Refusal)) →
@@ -42,6 +33,12 @@ pub else_clear : (test : Bool) (refusal : Refusal) (other : Option Refusal) →
 else_clear true refusal other is = absurd (cc)
 else_clear false refusal other is = is
 
+-- a test that refuses does not hold where nothing is refused
+pub then_clear : (test : Bool) (refusal : Refusal) (other : Option Refusal) →
+    cond test (Some refusal) other ≡ None → test ≡ false
+then_clear true refusal other is = absurd (cc)
+then_clear false refusal other is = refl
+
 -- a test whose opposite is false is true
 pub not_false : (test : Bool) → not test ≡ false → test ≡ true
 not_false true is = refl
@@ -57,7 +54,7 @@ pub limit_clear : (limit n : ℕ) → nat_lt limit n ≡ false → n ≤ limit
 limit_clear limit n is = grind (arith, nat_tests)
 
 -- of two tests that do not hold together neither holds
-neither : (a b : Bool) → (a || b) ≡ false → (a ≡ false) × (b ≡ false)
+pub neither : (a b : Bool) → (a || b) ≡ false → (a ≡ false) × (b ≡ false)
 neither true b is = absurd (cc)
 neither false b is = (refl, is)
 
@@ -99,7 +96,7 @@ pub own_front : (revisions more : List Revision) (page : ℕ) (choice : Option �
 own_front revisions more page None is = absurd (cc)
 own_front revisions more page (Some id) is = any_front _ revisions more is
 
--- ids rise with one more behind them that is above each
+-- ids rise with one more after them that is above each
 pub rise_append : (before : ℕ) (revisions : List Revision) (last : Revision) →
     before < last.id → AllByRecursion (λ (revision : Revision). revision.id < last.id) revisions →
     IdsRise before revisions → IdsRise before (revisions ++ last ∷ [])

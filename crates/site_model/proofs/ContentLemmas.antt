@@ -5,7 +5,8 @@ use Rattle.site_types.specs.Content.{content_form}
 use Rattle.site_types.specs.declared.refusal.Refusal.{Refusal}
 use Rattle.site_types.specs.declared.refusal.Refusal.TheVariants.{ContentFull}
 use Rattle.site_types.specs.declared.revision.Revision.{Revision}
-use Rattle.site_model.specs.Contents.{MAX_CONTENTS, contents_length, content_full}
+use Rattle.site_model.specs.Limits.{MAX_CONTENTS, contents_length}
+use Rattle.site_model.specs.Rules.{content_full}
 use Rattle.site_model.specs.Rules.{refused_if}
 
 -- the contents of two lists take what both take

@@ -1,5 +1,5 @@
 -- What a page that is appended below its parent does to the rows of the other pages.
-use Rattle.std.proofs.Common.{◌≡◌, ◌+◌, ℕ, Bool, true, false, not, List, [], ◌∷◌, ◌++◌, Option, Some, None, Result, Ok, cond, ◌||◌, nat_eq, refl, sym, ap, subst, ◌∙◌, arith}
+use Rattle.std.proofs.Common.{◌≡◌, ◌+◌, ℕ, Bool, true, false, not, List, [], ◌∷◌, ◌++◌, Option, Some, None, Ok, cond, ◌||◌, nat_eq, refl, sym, ap, subst, ◌∙◌, arith}
 use Rattle.std.specs.List.{AllByRecursion, IsDistinct}
 use Rattle.std.proofs.lemmas.Bool.Decides.{nat_tests}
 use Rattle.std.proofs.lemmas.List.{append-nil, map-append}
@@ -10,11 +10,13 @@ use Rattle.page_tree.specs.Rows.{Row, rows_below, rows_of, child_url, is_parent,
 use Rattle.page_tree.proofs.RowLemmas.{raise_count-others, AllIds-ids_of, AllIds-weaker}
 use Rattle.page_tree.proofs.RootLemmas.{leaf_row, rows_below-put_last, kid_count-put_last}
 use Rattle.site_types.specs.Content.{ContentValue}
-use Rattle.site_types.specs.declared.refusal.Refusal.{Refusal}
-use Rattle.site_types.specs.declared.reply.Reply.{Reply}
+use Rattle.site_types.specs.declared.command.Command.TheVariants.{Create}
 use Rattle.site_model.specs.World.{TreePart, Effect, time_at}
-use Rattle.site_model.specs.Create.{create, created, create_refusal, fresh_body, page_reply, plain_revision, unless_refused}
+use Rattle.site_model.specs.Create.{fresh_body, plain_revision}
+use Rattle.site_model.specs.Step.{step_by}
+use Rattle.site_model.specs.Step as steps
 use Rattle.site_model.specs.Laws.{KeepsLists, other_rows}
+use Rattle.site_model.proofs.AcceptLemmas.{accepted}
 
 -- what holds of each of two lists together holds of each of either
 all_split : (P : ℕ → Type 0) (xs ys : List ℕ) → AllByRecursion P (xs ++ ys) →
@@ -35,10 +37,6 @@ distinct_split (x ∷ xs) ys h =
 -- two ids that differ, by the test
 other_id : (id new : ℕ) → (id ≡ new → ⊥) → nat_eq id new ≡ false
 other_id id new h = grind (arith, nat_tests)
-
--- what is in two results that are the same
-pub same_ok : {X E : Type 0} (x y : X) → ◌≡◌ {A = Result X E} (Ok x) (Ok y) → x ≡ y
-same_ok x y is = cc
 
 module _ {Body : Type 0} where
   -- the ids of a page's children and of its later siblings are distinct, and none of them is the
@@ -200,57 +198,37 @@ module _ {Body : Type 0} where
             raised,
           ) refl
 
--- what an accepted creation is: no rule refused it, and this is the world after it
-pub accepted_creation : (refusal : Option Refusal) (part after : TreePart) (effect : Effect Reply)
-    (reply : Reply) →
-    unless_refused refusal part reply ≡ Ok (after, effect) →
-    (part ≡ after) × (effect ≡ record { reply = reply; opened = None; shut = [] })
-accepted_creation (Some refusal) part after effect reply is = absurd (cc)
-accepted_creation None part after effect reply is =
-    let pair = same_ok {E = Refusal} (part, record { reply = reply; opened = None; shut = [] })
-    (after, effect) is in (
-      ap (λ (p : TreePart × Effect Reply). p.0) pair,
-      ap (λ (p : TreePart × Effect Reply). p.1)
-          (sym pair),
-    )
-
--- the lists are kept in the world that a creation makes
-created_keeps_lists : (before : TreePart) (now caller parent : ℕ) (slug : List ℕ)
-    (content : ContentValue) →
-    KeepsLists before (created before now caller parent slug content)
-created_keeps_lists before now caller parent slug content =
-    record {
-      users = refl;
-      tasks = refl;
-      workflows = refl;
-      members = refl;
-      grants = refl;
-      desk_pairs = refl;
-      next_user = refl;
-      next_group = refl;
-      next_task = refl;
-      next_workflow = refl;
-    }
-
 -- What a creation does not name stays as it was.
-pub creation_keeps_the_rest : (before after : TreePart) (effect : Effect Reply)
-    (now caller parent : ℕ) (slug : List ℕ) (content : ContentValue) →
-    create before now caller parent slug content ≡ Ok (after, effect) →
-    KeepsLists before after × (effect.opened ≡ None) × (effect.shut ≡ []) ×
-    (after.revisions ≡ before.revisions ++ plain_revision before.next_revision before.next_page
-    caller (time_at before now) content ∷ []) ×
-    (HasDistinctIds before.tree → has_page before.next_page before.tree ≡ false → other_rows
-    before.next_page (rows_of after.tree) ≡ raise_count (Some parent) (rows_of before.tree))
-creation_keeps_the_rest before after effect now caller parent slug content is =
-    let new = created before now caller parent slug content in
-    let made = accepted_creation (create_refusal before.tree new.tree parent slug) new after effect
-    (page_reply before.next_page new.tree) is in (
-      subst (KeepsLists before) made.0 (created_keeps_lists before now caller parent slug content),
-      ap (λ (e : Effect Reply). e.opened) made.1,
-      ap (λ (e : Effect Reply). e.shut) made.1,
-      ap (λ (part : TreePart). part.revisions) (sym made.0),
+pub creation_keeps_the_rest : (before after : TreePart) (told : Effect)
+    (desk : Option ContentValue) (now caller parent : ℕ) (slug : List ℕ)
+    (content : ContentValue) →
+    step_by before desk now caller (Create parent slug content) ≡ Ok (after, told) →
+    KeepsLists before after
+    × (after.revisions
+    ≡ before.revisions
+    ++ plain_revision before.next_revision before.next_page caller (time_at before now) content
+    ∷ [])
+    × (HasDistinctIds before.tree → has_page before.next_page before.tree ≡ false →
+    other_rows before.next_page (rows_of after.tree) ≡ raise_count (Some parent)
+    (rows_of before.tree))
+unfolding steps.effect
+creation_keeps_the_rest before after told desk now caller parent slug content is =
+    let one = accepted before after told desk now caller (Create parent slug content) is in
+    let same = ap (λ (p : TreePart × Effect). p.0) one.done in (
+      record {
+        users = ap (λ (part : TreePart). part.users) (sym same);
+        tasks = ap (λ (part : TreePart). part.tasks) (sym same);
+        workflows = ap (λ (part : TreePart). part.workflows) (sym same);
+        members = ap (λ (part : TreePart). part.members) (sym same);
+        grants = ap (λ (part : TreePart). part.grants) (sym same);
+        next_user = ap (λ (part : TreePart). part.next_user) (sym same);
+        next_group = ap (λ (part : TreePart). part.next_group) (sym same);
+        next_task = ap (λ (part : TreePart). part.next_task) (sym same);
+        next_workflow = ap (λ (part : TreePart). part.next_workflow) (sym same);
+      },
+      ap (λ (part : TreePart). part.revisions) (sym same),
       λ distinct free. ap (λ (part : TreePart). other_rows before.next_page (rows_of part.tree))
-          (sym made.0) ∙ other_rows-graft parent before.next_page 1 slug
+          (sym same) ∙ other_rows-graft parent before.next_page 1 slug
           (fresh_body caller before.next_revision) None [] [] before.tree distinct
           (free_apart before.next_page before.tree free),
     )

@@ -1,54 +1,67 @@
 -- A creation keeps a world sound.
-use Rattle.std.proofs.Common.{◌≡◌, ◌+◌, ◌<◌, ◌≤◌, ℕ, Bool, true, false, List, [], ◌∷◌, ◌++◌, length, Some, None, Ok, nat_eq, not, refl, subst, arith}
+use Rattle.std.proofs.Common.{◌≡◌, ◌+◌, ◌<◌, ◌≤◌, ℕ, Bool, true, false, List, [], ◌∷◌, ◌++◌, length, Option, Some, None, nat_eq, refl, sym, subst, ◌∙◌, arith}
+use Rattle.std.specs.Prelude.{IfSome}
 use Rattle.std.specs.List.{AllByRecursion}
-use Rattle.page_tree.specs.Tree.{Forest, bare, End, has_page, kids_of, kid_with_slug, last_step, graft}
+use Rattle.page_tree.specs.Tree.{Forest, bare, End, has_page, kids_of, kid_with_slug, graft}
 use Rattle.page_tree.specs.Rows.{Row, rows_of}
 use Rattle.step_path.specs.declared.step.TheConstants.{LAST_STEP}
 use Rattle.step_path.specs.declared.path.TheConstants.{MAX_DEPTH}
+use Rattle.site_ids.specs.declared.ids.TheConstants.{LAST_PAGE_ID, LAST_REVISION_ID}
+use Rattle.site_ids.specs.Moment.{IsMoment}
 use Rattle.site_ids.specs.Slug.{IsSlug}
-use Rattle.site_types.specs.Content.{ContentValue}
+use Rattle.site_types.specs.Content.{ContentValue, FitsLimits}
 use Rattle.site_types.specs.declared.body.Body.{Body}
+use Rattle.site_types.specs.declared.moderation.Moderation.{Moderation}
 use Rattle.site_types.specs.declared.revision.Revision.{Revision}
-use Rattle.site_types.specs.declared.refusal.Refusal.TheVariants.{NoPage, StepsFull, TooDeep, UrlTooLong}
-use Rattle.site_types.specs.declared.reply.Reply.{Reply}
-use Rattle.site_model.specs.World.{TreePart, Effect, time_at}
+use Rattle.site_types.specs.declared.refusal.Refusal.TheVariants.{StepsFull, TooDeep, UrlTooLong, IdsFull, ContentFull}
+use Rattle.site_types.specs.declared.world_rows.Grant.{Grant}
 use Rattle.tree_model.specs.Limits.{MAX_URL, height}
-use Rattle.site_model.specs.Rules.{no_page, slug_taken, steps_full, too_deep, url_too_long}
-use Rattle.site_model.specs.Create.{create, created, create_refusal, fresh_body, new_page, page_reply, plain_revision}
-use Rattle.site_model.specs.Sound.{IsSound, HasIdsLeft, HasOwn, IsAtMost, IsGiven, is_own}
-use Rattle.site_model.proofs.CreateLemmas.{accepted_creation}
+use Rattle.tree_model.specs.Shape.{AllPages, AreWithin}
 use Rattle.tree_model.proofs.CountLemmas.{one, count, once, distinct_ids, has_counts, counts_has, same_id, id_found}
-use Rattle.tree_model.proofs.PageLemmas.{AllPages-graft, AllPages-weaker, AllPages-both}
+use Rattle.tree_model.proofs.PageLemmas.{AllPages-graft, AllPages-weaker, AllPages-both, all_weaker}
 use Rattle.tree_model.proofs.PlaceLemmas.{IsAmong, AtParent-kids, graft_counts}
-use Rattle.tree_model.proofs.SiblingLemmas.{AreRising-graft, AreWithin-graft, SlugsDiffer-graft, all_append}
-use Rattle.site_model.proofs.ClearLemmas.{not_refused, first_clear, test_clear, not_false, slug_clear, limit_clear, urls_clear, any_back, own_front, rise_append, not_given}
-use Rattle.tree_model.proofs.PageLemmas.{all_weaker}
+use Rattle.tree_model.proofs.SiblingLemmas.{AreRising-graft, SlugsDiffer-graft, all_append}
 use Rattle.tree_model.proofs.WholeLemmas.{whole-graft}
+use Rattle.site_model.specs.World.{TreePart, time_at}
+use Rattle.site_model.specs.Limits.{MAX_CONTENTS, contents_length}
+use Rattle.site_model.specs.Rules.{slug_taken, steps_full, too_deep, url_too_long, ids_full, content_full}
+use Rattle.site_model.specs.Create.{created, creation_rules, create_rules, fresh_body, new_page, plain_revision}
+use Rattle.site_model.specs.Sound.{IsTree, AreRevisions, IsBody, IsRegular, AreBodies, IsAliasBody, FitsModeration, HasMoments, IsAtMost, IsLatest, IsGiven, is_own, may_wait}
+use Rattle.site_model.proofs.ClearLemmas.{first_clear, test_clear, slug_clear, limit_clear, urls_clear, any_front, any_back, own_front, rise_append, not_given}
+use Rattle.site_model.proofs.RowLemmas.{rows_within, rows_too_deep}
+use Rattle.site_model.proofs.Groups.{AreGroups}
 
 -- What no rule refused says of a creation.
-record IsClear (tree after : Forest Body) (parent : ℕ) (slug : List ℕ) : Type 0 where
-  pub found : has_page parent tree ≡ true
-  pub free : kid_with_slug slug (kids_of parent tree) ≡ None
-  pub room : last_step 0 (kids_of parent tree) + 1 ≤ LAST_STEP
-  pub depth : height after ≤ MAX_DEPTH
-  pub urls : AllByRecursion (λ (row : Row Body). length row.url ≤ MAX_URL) (rows_of after)
+record IsClear (part after : TreePart) (parent : ℕ) (slug : List ℕ) : Type 0 where
+  pub free : kid_with_slug slug (kids_of parent part.tree) ≡ None
+  pub steps : AreWithin LAST_STEP after.tree
+  pub depth : height after.tree ≤ MAX_DEPTH
+  pub urls : AllByRecursion (λ (row : Row Body). length row.url ≤ MAX_URL) (rows_of after.tree)
+  pub page_left : part.next_page ≤ LAST_PAGE_ID
+  pub revision_left : part.next_revision ≤ LAST_REVISION_ID
+  pub contents : contents_length after.revisions ≤ MAX_CONTENTS
 
 -- the rules, one by one
-clear : (tree after : Forest Body) (parent : ℕ) (slug : List ℕ) →
-    create_refusal tree after parent slug ≡ None → IsClear tree after parent slug
-clear tree after parent slug none =
-    let page = first_clear (no_page tree parent) _ none in
-    let taken = first_clear (slug_taken tree parent slug) _ page.1 in
-    let full = first_clear (steps_full tree parent End) _ taken.1 in
-    let deep = first_clear (too_deep after) _ full.1 in
-    let long = first_clear (url_too_long after) _ deep.1 in
+clear : (part after : TreePart) (parent : ℕ) (slug : List ℕ) →
+    creation_rules part after parent slug ≡ None → IsClear part after parent slug
+clear part after parent slug none =
+    let rows = rows_of after.tree in
+    let taken = first_clear (slug_taken part.tree parent slug) _ none in
+    let full = first_clear (steps_full rows) _ taken.1 in
+    let deep = first_clear (too_deep rows) _ full.1 in
+    let long = first_clear (url_too_long rows) _ deep.1 in
+    let pages = first_clear (ids_full LAST_PAGE_ID part.next_page) _ long.1 in
+    let revisions = first_clear (ids_full LAST_REVISION_ID part.next_revision) _ pages.1 in
+    let contents = first_clear (content_full after.revisions) [] revisions.1 in
     record {
-      found = not_false (has_page parent tree)
-          (test_clear (not (has_page parent tree)) (NoPage parent) page.0);
-      free = slug_clear (kid_with_slug slug (kids_of parent tree)) taken.0;
-      room = limit_clear _ _ (test_clear _ StepsFull full.0);
-      depth = limit_clear _ _ (test_clear _ TooDeep deep.0);
-      urls = urls_clear (rows_of after) (test_clear _ UrlTooLong long.0);
+      free = slug_clear (kid_with_slug slug (kids_of parent part.tree)) taken.0;
+      steps = rows_within after.tree (test_clear _ StepsFull full.0);
+      depth = limit_clear MAX_DEPTH (height after.tree)
+          (sym (rows_too_deep after.tree) ∙ test_clear _ TooDeep deep.0);
+      urls = urls_clear rows (test_clear _ UrlTooLong long.0);
+      page_left = limit_clear _ _ (test_clear _ IdsFull pages.0);
+      revision_left = limit_clear _ _ (test_clear _ IdsFull revisions.0);
+      contents = limit_clear _ _ (test_clear _ ContentFull contents.0);
     }
 
 -- a page that stands once at most, and whose id is that of none of the others
@@ -71,23 +84,140 @@ own_back : (revisions : List Revision) (revision : Revision) →
 own_back revisions revision =
     any_back _ revisions (revision ∷ []) (rw (same_id revision.id, same_id revision.page) refl)
 
--- the world after a creation that no rule refuses is sound
-created_sound : (part : TreePart) (now caller parent : ℕ) (slug : List ℕ)
-    (content : ContentValue) → IsSound part → HasIdsLeft part → IsSlug slug →
-    IsClear part.tree (created part now caller parent slug content).tree parent slug →
-    IsSound (created part now caller parent slug content)
-created_sound part now caller parent slug content sound left fits clear =
+-- the new page's id is not the root's
+pub not_root : (pages : Forest Body) (next : ℕ) → IsTree pages next → next ≡ 1 → ⊥
+not_root pages next sound same =
+    let all = subst (λ f. AllPages (λ id slug body. IsGiven next id) f) sound.whole.is
+    sound.page_ids in
+    let above : 1 < next = all.0.1 in
+    omega (arith, above, same)
+
+-- what is kept of the new page
+fresh_is : (part : TreePart) (caller : ℕ) (revisions : List Revision) →
+    (part.next_page ≡ 1 → ⊥) → caller < part.next_user →
+    is_own revisions part.next_page (Some part.next_revision) ≡ true →
+    IsLatest revisions part.next_page (Some part.next_revision) →
+    IsBody revisions part.next_user part.next_workflow part.workflows part.next_page
+    (fresh_body caller part.next_revision)
+fresh_is part caller revisions other user own last = record {
+  root = λ is. absurd (other is);
+  regular = λ below regular. record { shown = own; latest = own; last = last; scheduled = tt };
+  alias = tt;
+  owner = user;
+  lock = tt;
+  assigned = tt;
+  moderation = tt;
+  first_published = tt;
+  last_published = tt;
+}
+
+-- a scheduled revision stays one where more are there
+waits_front : (revisions more : List Revision) (page : ℕ) (scheduled : Option ℕ) →
+    IfSome scheduled (λ id. may_wait revisions page id ≡ true) →
+    IfSome scheduled (λ id. may_wait (revisions ++ more) page id ≡ true)
+waits_front revisions more page None is = tt
+waits_front revisions more page (Some id) is = any_front _ revisions more is
+
+-- a moderation is one of a longer list
+moderation_front : (revisions more : List Revision) (users next : ℕ) (workflows : List (List ℕ))
+    (page : ℕ) (moderation : Option Moderation) →
+    IfSome moderation (FitsModeration revisions users next workflows page) →
+    IfSome moderation (FitsModeration (revisions ++ more) users next workflows page)
+moderation_front revisions more users next workflows page None is = tt
+moderation_front revisions more users next workflows page (Some moderation) is = record {
+  workflow = is.workflow;
+  task_counted = is.task_counted;
+  task_within = is.task_within;
+  revision = own_front revisions more page (Some moderation.revision) is.revision;
+  by = is.by;
+}
+
+-- an alias has no revision where one comes that is another page's
+alias_front : (revisions : List Revision) (new : Revision) (page : ℕ) (body : Body)
+    (source : Option ℕ) → (new.page ≡ page → ⊥) →
+    IfSome source (λ one. IsAliasBody revisions page body) →
+    IfSome source (λ one. IsAliasBody (revisions ++ new ∷ []) page body)
+alias_front revisions new page body None other is = tt
+alias_front revisions new page body (Some source) other is = record {
+  no_revision = all_append (λ (revision : Revision). revision.page ≡ page → ⊥) revisions
+      (new ∷ []) is.no_revision (other, tt);
+  live = is.live;
+  expired = is.expired;
+  shown = is.shown;
+  latest = is.latest;
+  scheduled = is.scheduled;
+  first_published = is.first_published;
+  last_published = is.last_published;
+  locked_by = is.locked_by;
+  moderation = is.moderation;
+}
+
+-- what is kept of another page, where a revision comes that is not its own
+body_front : (revisions : List Revision) (new : Revision) (users next : ℕ)
+    (workflows : List (List ℕ)) (id : ℕ) (body : Body) → (new.page ≡ id → ⊥) →
+    IsBody revisions users next workflows id body →
+    IsBody (revisions ++ new ∷ []) users next workflows id body
+body_front revisions new users next workflows id body other is = record {
+  root = is.root;
+  regular = λ below regular.
+      let own = is.regular below regular in
+      record {
+        shown = own_front revisions (new ∷ []) id body.shown own.shown;
+        latest = own_front revisions (new ∷ []) id body.latest own.latest;
+        last = all_append
+            (λ (revision : Revision). revision.page ≡ id → IsAtMost revision.id body.latest)
+            revisions (new ∷ []) own.last ((λ same. absurd (other same)), tt);
+        scheduled = waits_front revisions (new ∷ []) id body.scheduled own.scheduled;
+      };
+  alias = alias_front revisions new id body body.source other is.alias;
+  owner = is.owner;
+  lock = is.lock;
+  assigned = is.assigned;
+  moderation = moderation_front revisions (new ∷ []) users next workflows id body.moderation
+      is.moderation;
+  first_published = is.first_published;
+  last_published = is.last_published;
+}
+
+-- how often an id stands in the tree with the new page
+counted : (part : TreePart) (caller parent : ℕ) (slug : List ℕ) →
+    IsTree part.tree part.next_page → has_page parent part.tree ≡ true → (j : ℕ) →
+    count j (graft parent End (new_page part caller slug) part.tree)
+    ≡ count j (new_page part caller slug) + count j part.tree
+counted part caller parent slug sound found j =
+    let tree = part.tree in
+    let body = fresh_body caller part.next_revision in
+    let most = once tree sound.distinct parent in
+    let some = has_counts parent tree found in
+    let one_parent : count parent tree ≡ 1 = omega (arith, some, most) in
+    graft_counts j parent End part.next_page 1 slug body bare tree one_parent
+    (AtParent-kids parent (IsAmong End) tree most tt)
+
+-- a page that was there is there with the new one
+stays_there : (part : TreePart) (caller parent : ℕ) (slug : List ℕ) →
+    IsTree part.tree part.next_page → has_page parent part.tree ≡ true → (id : ℕ) →
+    has_page id part.tree ≡ true →
+    has_page id (graft parent End (new_page part caller slug) part.tree) ≡ true
+stays_there part caller parent slug sound found id there =
+    let sum = counted part caller parent slug sound found id in
+    let old = has_counts id part.tree there in
+    counts_has id (graft parent End (new_page part caller slug) part.tree) (omega (arith, sum, old))
+
+-- the tree with the new page
+tree_sound : (part after : TreePart) (caller parent : ℕ) (slug : List ℕ) →
+    IsTree part.tree part.next_page → has_page parent part.tree ≡ true → IsSlug slug →
+    after.tree ≡ graft parent End (new_page part caller slug) part.tree →
+    IsClear part after parent slug →
+    IsTree (graft parent End (new_page part caller slug) part.tree) (part.next_page + 1)
+tree_sound part after caller parent slug sound found fits is clear =
     let tree = part.tree in
     let body = fresh_body caller part.next_revision in
     let node = new_page part caller slug in
-    let revision = plain_revision part.next_revision part.next_page caller (time_at part now)
-    content in
     let each = once tree sound.distinct in
-    let some = has_counts parent tree clear.found in
+    let some = has_counts parent tree found in
     let most = each parent in
     let one_parent : count parent tree ≡ 1 = omega (arith, some, most) in
-    let counts = λ (j : ℕ). graft_counts j parent End part.next_page 1 slug body bare tree
-    one_parent (AtParent-kids parent (IsAmong End) tree most tt) in
+    let counts = counted part caller parent slug sound found in
     record {
       whole = whole-graft parent End node tree sound.whole;
       distinct = distinct_ids (graft parent End node tree) (λ j.
@@ -95,88 +225,147 @@ created_sound part now caller parent slug content sound left fits clear =
           let all = fresh_once part.next_page j (count j tree) (each j)
           (λ above. not_given part.next_page j tree above sound.page_ids) in
           omega (arith, sum, all));
-      next_page = (omega arith, omega (arith, left.page));
-      next_revision = (omega arith, omega (arith, left.revision));
+      next_page = (omega arith, omega (arith, clear.page_left));
       page_ids = AllPages-graft (λ id slug body. IsGiven (part.next_page + 1) id) parent End node
           tree ((sound.next_page.0, omega arith), tt, tt)
           (AllPages-weaker (λ id slug body. IsGiven part.next_page id)
           (λ id slug body. IsGiven (part.next_page + 1) id) tree
           (λ id slug body given. (given.0, omega (arith, given.1))) sound.page_ids);
-      revision_ids = all_append
-          (λ (revision : Revision). revision.id < part.next_revision + 1) part.revisions
-          (revision ∷ [])
-          (all_weaker (λ (revision : Revision). revision.id < part.next_revision) _ part.revisions
-          (λ revision lower. omega (arith, lower)) sound.revision_ids)
-          (omega arith, tt);
       rising = AreRising-graft part.next_page 1 slug body bare parent 0 End tree tt sound.rising;
-      steps = AreWithin-graft part.next_page 1 slug body bare LAST_STEP parent 0 End tree tt
-          sound.rising sound.steps
-          (AtParent-kids parent (λ kids. last_step 0 kids + 1 ≤ LAST_STEP) tree most clear.room);
-      depth = clear.depth;
-      urls = clear.urls;
+      steps = subst (λ f. AreWithin LAST_STEP f) is clear.steps;
+      depth = subst (λ f. height f ≤ MAX_DEPTH) is clear.depth;
+      urls = subst (λ f. AllByRecursion (λ (row : Row Body). length row.url ≤ MAX_URL) (rows_of f))
+          is clear.urls;
       slugs = AllPages-graft (λ id slug body. (id ≡ 1 → ⊥) → IsSlug slug) parent End node tree
           ((λ other. fits), tt, tt) sound.slugs;
       siblings = SlugsDiffer-graft part.next_page 1 slug body bare parent End tree tt
           (AtParent-kids parent (λ kids. kid_with_slug slug kids ≡ None) tree most clear.free)
           sound.siblings;
-      choices = AllPages-graft
-          (λ id slug body. (id ≡ 1 → ⊥) → HasOwn (part.revisions ++ revision ∷ []) id body)
-          parent End node tree (
-            (λ other. record {
-              shown = own_back part.revisions revision;
-              latest = own_back part.revisions revision;
-              last = all_append
-                  (λ (older : Revision). older.page ≡ part.next_page →
-                  IsAtMost older.id (Some part.next_revision)) part.revisions (revision ∷ [])
-                  (all_weaker (λ (older : Revision). older.id < part.next_revision) _
-                  part.revisions (λ older lower same. omega (arith, lower)) sound.revision_ids)
-                  ((λ same. omega arith), tt);
-            }),
-            tt,
-            tt,
-          )
-          (AllPages-both (λ id slug body. (id ≡ 1 → ⊥) → HasOwn part.revisions id body)
-          (λ id slug body. IsGiven part.next_page id)
-          (λ id slug body. (id ≡ 1 → ⊥) → HasOwn (part.revisions ++ revision ∷ []) id body) tree
-          (λ id slug body own given other. record {
-            shown = own_front part.revisions (revision ∷ []) id body.shown (own other).shown;
-            latest = own_front part.revisions (revision ∷ []) id body.latest (own other).latest;
-            last = all_append
-                (λ (older : Revision). older.page ≡ id → IsAtMost older.id body.latest)
-                part.revisions (revision ∷ []) (own other).last (
-                  (λ same. absurd (not_new part.next_page id given.1 same)),
-                  tt,
-                );
-          }) sound.choices sound.page_ids);
-      revisions_rise = rise_append 0 part.revisions revision sound.next_revision.0
-          sound.revision_ids sound.revisions_rise;
+    }
+
+-- the revisions with that of the new page
+revisions_sound : (part : TreePart) (now caller parent : ℕ) (slug : List ℕ)
+    (content : ContentValue) → AreGroups part → has_page parent part.tree ≡ true →
+    FitsLimits content → IsMoment now → caller < part.next_user →
+    IsClear part (created part now caller parent slug content) parent slug →
+    AreRevisions (created part now caller parent slug content).tree
+    (created part now caller parent slug content).revisions (part.next_revision + 1) part.next_user
+revisions_sound part now caller parent slug content sound found fits moment user clear =
+    let tree = part.tree in
+    let node = new_page part caller slug in
+    let revision = plain_revision part.next_revision part.next_page caller (time_at part now)
+    content in
+    let old = sound.revisions in
+    let counts = counted part caller parent slug sound.pages found in
+    record {
+      next_revision = (omega arith, omega (arith, clear.revision_left));
+      revision_ids = all_append
+          (λ (revision : Revision). revision.id < part.next_revision + 1) part.revisions
+          (revision ∷ [])
+          (all_weaker (λ (revision : Revision). revision.id < part.next_revision) _ part.revisions
+          (λ revision lower. omega (arith, lower)) old.revision_ids)
+          (omega arith, tt);
+      revisions_rise = rise_append 0 part.revisions revision old.next_revision.0
+          old.revision_ids old.revisions_rise;
       revisions_have_pages = all_append
           (λ (revision : Revision). has_page revision.page (graft parent End node tree) ≡ true)
           part.revisions (revision ∷ [])
           (all_weaker (λ (revision : Revision). has_page revision.page tree ≡ true) _
           part.revisions
-          (λ revision there.
-          let sum = counts revision.page in
-          let old = has_counts revision.page tree there in
-          counts_has revision.page (graft parent End node tree) (omega (arith, sum, old)))
-          sound.revisions_have_pages) (
+          (λ revision there. stays_there part caller parent slug sound.pages found revision.page
+          there) old.revisions_have_pages) (
             (let sum = rw (same_id part.next_page) at (counts part.next_page) in
                 counts_has part.next_page (graft parent End node tree) (omega (arith, sum))),
             tt,
           );
+      revisions_below_root = all_append (λ (revision : Revision). revision.page ≡ 1 → ⊥)
+          part.revisions (revision ∷ []) old.revisions_below_root
+          (not_root part.tree part.next_page sound.pages, tt);
+      authors = all_append (λ (revision : Revision). revision.by < part.next_user) part.revisions
+          (revision ∷ []) old.authors (user, tt);
+      moments = all_append HasMoments part.revisions (revision ∷ []) old.moments
+          (record { made = omega (arith, sound.time, moment); go_live = tt; expire = tt }, tt);
+      contents = all_append (λ (revision : Revision). FitsLimits revision.content) part.revisions
+          (revision ∷ []) old.contents (fits, tt);
+      contents_fit = clear.contents;
     }
 
--- A creation with a slug, where ids are left, keeps a world sound.
-pub creation_keeps_sound : (before after : TreePart) (effect : Effect Reply)
-    (now caller parent : ℕ) (slug : List ℕ) (content : ContentValue) →
-    IsSound before → HasIdsLeft before → IsSlug slug →
-    create before now caller parent slug content ≡ Ok (after, effect) → IsSound after
-creation_keeps_sound before after effect now caller parent slug content sound left fits is =
-    let made = created before now caller parent slug content in
-    let reply = page_reply before.next_page made.tree in
-    let refusal = create_refusal before.tree made.tree parent slug in
-    let none = not_refused refusal made after effect reply is in
-    let same = accepted_creation refusal made after effect reply is in
-    subst IsSound same.0
-    (created_sound before now caller parent slug content sound left fits
-    (clear before.tree made.tree parent slug none))
+-- an alias that there is not has any source
+pub no_source : (pages : Forest Body) (source : Option ℕ) → source ≡ None →
+    IfSome source (IsRegular pages)
+no_source pages None is = tt
+no_source pages (Some source) is = absurd (cc)
+
+-- what is kept of the pages with the new one
+bodies_sound : (part : TreePart) (now caller parent : ℕ) (slug : List ℕ)
+    (content : ContentValue) → AreGroups part → has_page parent part.tree ≡ true →
+    caller < part.next_user → AllPages (λ id slug body. body.source ≡ None) part.tree →
+    AreBodies (created part now caller parent slug content).tree
+    (created part now caller parent slug content).revisions part.next_user part.next_workflow
+    part.workflows
+bodies_sound part now caller parent slug content sound found user regular =
+    let tree = part.tree in
+    let node = new_page part caller slug in
+    let revision = plain_revision part.next_revision part.next_page caller (time_at part now)
+    content in
+    let revisions = part.revisions ++ revision ∷ [] in
+    let after = graft parent End node tree in
+    record {
+      bodies = AllPages-graft
+          (λ id slug body. IsBody revisions part.next_user part.next_workflow part.workflows id
+          body) parent End node tree (
+            fresh_is part caller revisions (not_root tree part.next_page sound.pages) user
+                (own_back part.revisions revision)
+                (all_append
+                (λ (older : Revision). older.page ≡ part.next_page →
+                IsAtMost older.id (Some part.next_revision)) part.revisions (revision ∷ [])
+                (all_weaker (λ (older : Revision). older.id < part.next_revision) _
+                part.revisions (λ older lower same. omega (arith, lower))
+                sound.revisions.revision_ids)
+                ((λ same. omega arith), tt)),
+            tt,
+            tt,
+          )
+          (AllPages-both
+          (λ id slug body. IsBody part.revisions part.next_user part.next_workflow part.workflows
+          id body) (λ id slug body. IsGiven part.next_page id) _ tree
+          (λ id slug body is given. body_front part.revisions revision part.next_user
+          part.next_workflow part.workflows id body (not_new part.next_page id given.1) is)
+          sound.bodies.bodies sound.pages.page_ids);
+      sources = AllPages-graft (λ id slug body. IfSome body.source (IsRegular after)) parent End
+          node
+          tree (tt, tt, tt)
+          (AllPages-weaker (λ id slug body. body.source ≡ None) _ tree
+          (λ id slug body none. no_source after body.source none) regular);
+    }
+
+-- the world after a creation that no rule refuses is sound
+pub creation_keeps_sound : (part : TreePart) (now caller parent : ℕ) (slug : List ℕ)
+    (content : ContentValue) → AreGroups part →
+    AllPages (λ id slug body. body.source ≡ None) part.tree → has_page parent part.tree ≡ true →
+    IsSlug slug → FitsLimits content → IsMoment now → caller < part.next_user →
+    create_rules part now caller parent slug content ≡ None →
+    AreGroups (created part now caller parent slug content)
+creation_keeps_sound part now caller parent slug content sound regular found slugged fits moment
+    user none =
+    let after = created part now caller parent slug content in
+    let clear = clear part after parent slug none in
+    record {
+      time = omega (arith, sound.time, moment);
+      pages = tree_sound part after caller parent slug sound.pages found slugged refl clear;
+      revisions = revisions_sound part now caller parent slug content sound found fits moment user
+          clear;
+      bodies = bodies_sound part now caller parent slug content sound found user regular;
+      people = sound.people;
+      tasks = sound.tasks;
+      grants = record {
+        grants_name = sound.grants.grants_name;
+        grants_have_pages = all_weaker
+            (λ (grant : Grant). has_page grant.page part.tree ≡ true)
+            (λ (grant : Grant). has_page grant.page after.tree ≡ true) part.grants
+            (λ grant there. stays_there part caller parent slug sound.pages found grant.page there)
+            sound.grants.grants_have_pages;
+        grants_rise = sound.grants.grants_rise;
+        grants_fit = sound.grants.grants_fit;
+      };
+    }

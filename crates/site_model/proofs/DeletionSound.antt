@@ -1,26 +1,31 @@
 -- A deletion keeps a world sound.
-use Rattle.std.proofs.Common.{◌≡◌, ◌<◌, ◌≤◌, ℕ, Bool, true, false, cond, not, ◌||◌, ◌&&◌, List, [], ◌∷◌, length, filter, Option, Some, None, Ok, nat_eq, max, suc, refl, sym, ap, subst, arith}
+use Rattle.std.proofs.Common.{◌≡◌, ◌<◌, ◌≤◌, ℕ, Bool, true, false, cond, not, ◌||◌, ◌&&◌, List, [], ◌∷◌, length, filter, Option, Some, None, nat_eq, max, suc, refl, arith}
+use Rattle.std.specs.Prelude.{IfSome}
 use Rattle.std.specs.List.{AllByRecursion, list_any}
 use Rattle.page_tree.specs.Tree.{Forest, bare, grown, has_page, node_of, without}
 use Rattle.step_path.specs.declared.step.TheConstants.{LAST_STEP}
+use Rattle.site_ids.specs.Moment.{IsMoment}
 use Rattle.site_ids.specs.Slug.{IsSlug}
+use Rattle.site_types.specs.Content.{FitsLimits}
 use Rattle.site_types.specs.declared.body.Body.{Body}
+use Rattle.site_types.specs.declared.moderation.Moderation.{Moderation}
 use Rattle.site_types.specs.declared.revision.Revision.{Revision}
-use Rattle.site_types.specs.declared.refusal.Refusal.{Refusal}
-use Rattle.site_types.specs.declared.refusal.Refusal.TheVariants.{IsRoot}
-use Rattle.site_types.specs.declared.reply.Reply.{Reply}
-use Rattle.site_model.specs.World.{TreePart, Effect}
+use Rattle.site_types.specs.declared.world_rows.Grant.{Grant}
 use Rattle.tree_model.specs.Limits.{MAX_URL, height}
-use Rattle.site_model.specs.Rules.{no_page, is_root}
-use Rattle.site_types.specs.declared.reply.Reply.TheVariants.{Removed}
-use Rattle.site_model.specs.Delete.{delete, delete_refusal, without_page, unless_kept, count_gone, desks_gone}
-use Rattle.site_model.proofs.CreateLemmas.{same_ok}
-use Rattle.site_model.specs.Sound.{IsSound, HasOwn, IsAtMost, IsGiven, IdsRise, is_own}
-use Rattle.tree_model.proofs.CountLemmas.{once, distinct_ids, has_counts, counts_has, none_has, none_counts, either, id_found, apart_by_test, cut_counts}
-use Rattle.tree_model.proofs.PageLemmas.{AllPages-without, AllPages-both, AllPages-counted}
+use Rattle.tree_model.specs.Shape.{AllPages}
+use Rattle.tree_model.proofs.CountLemmas.{once, distinct_ids, has_counts, counts_has, none_has, none_counts, either, id_found, cut_counts}
+use Rattle.tree_model.proofs.PageLemmas.{AllPages-without, AllPages-weaker, AllPages-both, AllPages-counted}
 use Rattle.tree_model.proofs.SiblingLemmas.{AreRising-without, AreWithin-without, SlugsDiffer-without, urls-without}
-use Rattle.site_model.proofs.ClearLemmas.{first_clear, test_clear}
 use Rattle.tree_model.proofs.WholeLemmas.{whole-without}
+use Rattle.site_model.specs.World.{TreePart}
+use Rattle.site_model.specs.Delete.{without_page}
+use Rattle.site_model.specs.Users.{grant_key}
+use Rattle.site_model.specs.Sound.{IsTree, AreRevisions, IsBody, IsAliasBody, FitsModeration, HasMoments, AreBodies, AreGrants, IsAtMost, IsGiven, IdsRise, is_own, may_wait}
+use Rattle.site_model.proofs.ContentLemmas.{contents_length-filter}
+use Rattle.site_model.proofs.CreationSound.{no_source}
+use Rattle.site_model.proofs.Groups.{AreGroups}
+use Rattle.site_model.proofs.OrderLemmas.{all_filter}
+use Rattle.site_model.proofs.OrderLemmas as orders
 
 -- what a cut leaves is no deeper
 height-without : (id : ℕ) (f : Forest Body) → height (without id f) ≤ height f
@@ -31,17 +36,6 @@ height-without id (grown i step slug body kids rest) =
     either (λ f. height f ≤ max (suc (height kids)) (height rest)) (nat_eq i id) rest
     (grown i step slug body (without id kids) (without id rest)) (omega arith)
     (omega (arith, below, after))
-
--- what holds of each element holds of each that a test keeps
-all_filter : {X : Type 0} (P : X → Type 0) (keep : X → Bool) (xs : List X) →
-    AllByRecursion P xs → AllByRecursion P (filter keep xs)
-all_filter P keep [] all = tt
-all_filter P keep (x ∷ xs) all = choice (keep x) (all_filter P keep xs all.1)
-  where
-    choice : (t : Bool) → AllByRecursion P (filter keep xs) →
-        AllByRecursion P (cond t (x ∷ filter keep xs) (filter keep xs))
-    choice true more = (all.0, more)
-    choice false more = more
 
 -- what follows for each element that a test keeps holds of each of these
 pub all_kept : {X : Type 0} (P Q : X → Type 0) (keep : X → Bool) (xs : List X) →
@@ -97,107 +91,227 @@ both_hold true b is = (refl, is)
 both_hold false b is = absurd (cc)
 
 -- the kept revisions are those of pages that stay
-abbrev stays : Forest Body → Revision → Bool
-stays gone revision = not (has_page revision.page gone)
+abbrev is_kept : Forest Body → Revision → Bool
+is_kept gone revision = not (has_page revision.page gone)
 
 -- a page that stays keeps its own revisions
 own_kept : (gone : Forest Body) (revisions : List Revision) (page : ℕ) (choice : Option ℕ) →
     has_page page gone ≡ false → is_own revisions page choice ≡ true →
-    is_own (filter (stays gone) revisions) page choice ≡ true
+    is_own (filter (is_kept gone) revisions) page choice ≡ true
 own_kept gone revisions page None there is = absurd (cc)
 own_kept gone revisions page (Some id) there is =
     any_kept (λ (revision : Revision). nat_eq revision.id id && nat_eq revision.page page)
-    (stays gone) revisions
+    (is_kept gone) revisions
     (λ revision both.
     let same = id_found revision.page page
     (both_hold (nat_eq revision.id id) (nat_eq revision.page page) both).1 in
     rw (same, there) refl) is
 
--- the world after a deletion that no rule refuses is sound
-deleted_sound : (part : TreePart) (now page : ℕ) → IsSound part → (1 ≡ page → ⊥) →
-    IsSound (without_page part now page)
-deleted_sound part now page sound other =
-    let tree = part.tree in
-    let left = without page tree in
-    let gone = node_of page tree in
-    let each = once tree sound.distinct in
-    let counts = λ (j : ℕ). cut_counts page j tree (each page) in
+-- so does the scheduled one
+waits_kept : (gone : Forest Body) (revisions : List Revision) (page : ℕ) (scheduled : Option ℕ) →
+    has_page page gone ≡ false → IfSome scheduled (λ id. may_wait revisions page id ≡ true) →
+    IfSome scheduled (λ id. may_wait (filter (is_kept gone) revisions) page id ≡ true)
+waits_kept gone revisions page None there is = tt
+waits_kept gone revisions page (Some id) there is =
+    any_kept _ (is_kept gone) revisions
+    (λ revision all.
+    let both = both_hold (nat_eq revision.id id) _ all in
+    let own = both_hold (nat_eq revision.page page) _ both.1 in
+    let same = id_found revision.page page own.0 in
+    rw (same, there) refl) is
+
+-- and the moderated one
+moderation_kept : (gone : Forest Body) (revisions : List Revision) (users next : ℕ)
+    (workflows : List (List ℕ)) (page : ℕ) (moderation : Option Moderation) →
+    has_page page gone ≡ false →
+    IfSome moderation (FitsModeration revisions users next workflows page) →
+    IfSome moderation
+    (FitsModeration (filter (is_kept gone) revisions) users next workflows page)
+moderation_kept gone revisions users next workflows page None there is = tt
+moderation_kept gone revisions users next workflows page (Some moderation) there is = record {
+  workflow = is.workflow;
+  task_counted = is.task_counted;
+  task_within = is.task_within;
+  revision = own_kept gone revisions page (Some moderation.revision) there is.revision;
+  by = is.by;
+}
+
+-- an alias has no revision among fewer
+alias_kept : (keep : Revision → Bool) (revisions : List Revision) (page : ℕ) (body : Body)
+    (source : Option ℕ) → IfSome source (λ one. IsAliasBody revisions page body) →
+    IfSome source (λ one. IsAliasBody (filter keep revisions) page body)
+alias_kept keep revisions page body None is = tt
+alias_kept keep revisions page body (Some source) is = record {
+  no_revision = all_filter (λ (revision : Revision). revision.page ≡ page → ⊥) keep revisions
+      is.no_revision;
+  live = is.live;
+  expired = is.expired;
+  shown = is.shown;
+  latest = is.latest;
+  scheduled = is.scheduled;
+  first_published = is.first_published;
+  last_published = is.last_published;
+  locked_by = is.locked_by;
+  moderation = is.moderation;
+}
+
+-- what is kept of a page that stays
+body_kept : (gone : Forest Body) (revisions : List Revision) (users next : ℕ)
+    (workflows : List (List ℕ)) (id : ℕ) (body : Body) → has_page id gone ≡ false →
+    IsBody revisions users next workflows id body →
+    IsBody (filter (is_kept gone) revisions) users next workflows id body
+body_kept gone revisions users next workflows id body there is = record {
+  root = is.root;
+  regular = λ below regular.
+      let own = is.regular below regular in
+      record {
+        shown = own_kept gone revisions id body.shown there own.shown;
+        latest = own_kept gone revisions id body.latest there own.latest;
+        last = all_filter
+            (λ (revision : Revision). revision.page ≡ id → IsAtMost revision.id body.latest)
+            (is_kept gone) revisions own.last;
+        scheduled = waits_kept gone revisions id body.scheduled there own.scheduled;
+      };
+  alias = alias_kept (is_kept gone) revisions id body body.source is.alias;
+  owner = is.owner;
+  lock = is.lock;
+  assigned = is.assigned;
+  moderation = moderation_kept gone revisions users next workflows id body.moderation there
+      is.moderation;
+  first_published = is.first_published;
+  last_published = is.last_published;
+}
+
+-- the tree that is left
+tree_left : (pages : Forest Body) (next page : ℕ) → IsTree pages next → (1 ≡ page → ⊥) →
+    IsTree (without page pages) next
+tree_left pages next page sound other =
+    let left = without page pages in
+    let each = once pages sound.distinct in
     record {
-      whole = whole-without page tree other sound.whole;
+      whole = whole-without page pages other sound.whole;
       distinct = distinct_ids left (λ j.
-          let sum = counts j in
+          let sum = cut_counts page j pages (each page) in
           let most = each j in omega (arith, sum, most));
       next_page = sound.next_page;
-      next_revision = sound.next_revision;
-      page_ids = AllPages-without (λ id slug body. IsGiven part.next_page id) page tree
-          sound.page_ids;
-      revision_ids = all_filter (λ (revision : Revision). revision.id < part.next_revision)
-          (stays gone) part.revisions sound.revision_ids;
-      rising = AreRising-without page 0 tree sound.rising;
-      steps = AreWithin-without LAST_STEP page tree sound.steps;
-      depth = let no_deeper = height-without page tree in omega (arith, no_deeper, sound.depth);
-      urls = urls-without (λ url. length url ≤ MAX_URL) page None [] [] tree sound.urls;
-      slugs = AllPages-without (λ id slug body. (id ≡ 1 → ⊥) → IsSlug slug) page tree sound.slugs;
-      siblings = SlugsDiffer-without page tree sound.siblings;
-      choices = AllPages-both (λ id slug body. (id ≡ 1 → ⊥) → HasOwn part.revisions id body)
-          (λ id slug body. has_page id gone ≡ false)
-          (λ id slug body. (id ≡ 1 → ⊥) →
-          HasOwn (filter (stays gone) part.revisions) id body) left
-          (λ id slug body own there above. record {
-            shown = own_kept gone part.revisions id body.shown there (own above).shown;
-            latest = own_kept gone part.revisions id body.latest there (own above).latest;
-            last = all_filter
-                (λ (revision : Revision). revision.page ≡ id → IsAtMost revision.id body.latest)
-                (stays gone) part.revisions (own above).last;
-          })
-          (AllPages-without (λ id slug body. (id ≡ 1 → ⊥) → HasOwn part.revisions id body) page
-          tree sound.choices)
-          (AllPages-counted (λ id. has_page id gone ≡ false) left (λ j some.
-          let sum = counts j in
-          let most = each j in
-          none_has j gone (omega (arith, sum, most))));
-      revisions_rise = rise_filter 0 (stays gone) part.revisions sound.revisions_rise;
-      revisions_have_pages = all_kept
-          (λ (revision : Revision). has_page revision.page tree ≡ true)
-          (λ (revision : Revision). has_page revision.page left ≡ true) (stays gone)
-          part.revisions
-          (λ revision there kept.
-          let none = none_counts revision.page gone (kept_off (has_page revision.page gone) kept) in
-          let sum = counts revision.page in
-          let some = has_counts revision.page tree there in
-          counts_has revision.page left (omega (arith, none, sum, some)))
-          sound.revisions_have_pages;
+      page_ids = AllPages-without (λ id slug body. IsGiven next id) page pages sound.page_ids;
+      rising = AreRising-without page 0 pages sound.rising;
+      steps = AreWithin-without LAST_STEP page pages sound.steps;
+      depth = let no_deeper = height-without page pages in omega (arith, no_deeper, sound.depth);
+      urls = urls-without (λ url. length url ≤ MAX_URL) page None [] [] pages sound.urls;
+      slugs = AllPages-without (λ id slug body. (id ≡ 1 → ⊥) → IsSlug slug) page pages sound.slugs;
+      siblings = SlugsDiffer-without page pages sound.siblings;
     }
+
+-- a page that was there, and is not among those that go, is left
+is_left : (pages : Forest Body) (next page id : ℕ) → IsTree pages next →
+    has_page id pages ≡ true → not (has_page id (node_of page pages)) ≡ true →
+    has_page id (without page pages) ≡ true
+is_left pages next page id sound there kept =
+    let gone = node_of page pages in
+    let none = none_counts id gone (kept_off (has_page id gone) kept) in
+    let sum = cut_counts page id pages (once pages sound.distinct page) in
+    let some = has_counts id pages there in
+    counts_has id (without page pages) (omega (arith, none, sum, some))
   where
     kept_off : (t : Bool) → not t ≡ true → t ≡ false
     kept_off true is = absurd (cc)
     kept_off false is = refl
 
--- what a deletion does beside changing the tree part
-abbrev pub deletion_effect : TreePart → ℕ → Effect Reply
-deletion_effect part page =
-    record { reply = Removed (count_gone part page); opened = None; shut = desks_gone part page }
+-- the revisions that are left
+revisions_left : (part : TreePart) (page : ℕ) → AreGroups part →
+    AreRevisions (without page part.tree)
+    (filter (is_kept (node_of page part.tree)) part.revisions) part.next_revision part.next_user
+revisions_left part page sound =
+    let old = sound.revisions in
+    let gone = node_of page part.tree in
+    record {
+      next_revision = old.next_revision;
+      revision_ids = all_filter (λ (revision : Revision). revision.id < part.next_revision)
+          (is_kept gone) part.revisions old.revision_ids;
+      revisions_rise = rise_filter 0 (is_kept gone) part.revisions old.revisions_rise;
+      revisions_have_pages = all_kept
+          (λ (revision : Revision). has_page revision.page part.tree ≡ true)
+          (λ (revision : Revision). has_page revision.page (without page part.tree) ≡ true)
+          (is_kept gone) part.revisions
+          (λ revision there kept. is_left part.tree part.next_page page revision.page sound.pages
+          there kept) old.revisions_have_pages;
+      revisions_below_root = all_filter (λ (revision : Revision). revision.page ≡ 1 → ⊥)
+          (is_kept gone) part.revisions old.revisions_below_root;
+      authors = all_filter (λ (revision : Revision). revision.by < part.next_user) (is_kept gone)
+          part.revisions old.authors;
+      moments = all_filter HasMoments (is_kept gone) part.revisions old.moments;
+      contents = all_filter (λ (revision : Revision). FitsLimits revision.content) (is_kept gone)
+          part.revisions old.contents;
+      contents_fit =
+          let fewer = contents_length-filter (is_kept gone) part.revisions in
+          omega (arith, fewer, old.contents_fit);
+    }
 
--- what an accepted deletion is: no rule refused it, and this is the world after it
-pub accepted_deletion : (refusal : Option Refusal) (part after : TreePart) (effect : Effect Reply)
-    (now page : ℕ) → unless_kept refusal part now page ≡ Ok (after, effect) →
-    (refusal ≡ None) × (without_page part now page ≡ after) × (effect ≡ deletion_effect part page)
-accepted_deletion (Some refusal) part after effect now page is = absurd (cc)
-accepted_deletion None part after effect now page is =
-    let pair = same_ok {E = Refusal} (without_page part now page, deletion_effect part page)
-    (after, effect) is in (
-      refl,
-      ap (λ (p : TreePart × Effect Reply). p.0) pair,
-      ap (λ (p : TreePart × Effect Reply). p.1) (sym pair),
-    )
+-- what is kept of the pages that are left
+bodies_left : (part : TreePart) (page : ℕ) → AreGroups part →
+    AllPages (λ id slug body. body.source ≡ None) part.tree →
+    AreBodies (without page part.tree)
+    (filter (is_kept (node_of page part.tree)) part.revisions) part.next_user part.next_workflow
+    part.workflows
+bodies_left part page sound regular =
+    let tree = part.tree in
+    let left = without page tree in
+    let gone = node_of page tree in
+    let each = once tree sound.pages.distinct in
+    record {
+      bodies = AllPages-both
+          (λ id slug body. IsBody part.revisions part.next_user part.next_workflow part.workflows
+          id body) (λ id slug body. has_page id gone ≡ false) _ left
+          (λ id slug body is there. body_kept gone part.revisions part.next_user
+          part.next_workflow part.workflows id body there is)
+          (AllPages-without _ page tree sound.bodies.bodies)
+          (AllPages-counted (λ id. has_page id gone ≡ false) left (λ j some.
+          let sum = cut_counts page j tree (each page) in
+          let most = each j in
+          none_has j gone (omega (arith, sum, most))));
+      sources = AllPages-weaker (λ id slug body. body.source ≡ None) _ left
+          (λ id slug body none. no_source left body.source none)
+          (AllPages-without _ page tree regular);
+    }
 
--- A deletion keeps a world sound.
-pub deletion_keeps_sound : (before after : TreePart) (effect : Effect Reply) (now page : ℕ) →
-    IsSound before → delete before now page ≡ Ok (after, effect) → IsSound after
-deletion_keeps_sound before after effect now page sound is =
-    let done = accepted_deletion (delete_refusal before.tree page) before after effect now page is
-    in
-    let there = first_clear (no_page before.tree page) _ done.0 in
-    let root = first_clear (is_root page) _ there.1 in
-    let other = apart_by_test page 1 (test_clear _ IsRoot root.0) in
-    subst IsSound done.1 (deleted_sound before now page sound (λ is_one. other (sym is_one)))
+-- a test keeps no more than there is
+pub shorter : {X : Type 0} (keep : X → Bool) (xs : List X) → length (filter keep xs) ≤ length xs
+shorter keep [] = omega arith
+shorter keep (x ∷ xs) = choice (keep x) (shorter keep xs)
+  where
+    choice : (t : Bool) → length (filter keep xs) ≤ length xs →
+        length (cond t (x ∷ filter keep xs) (filter keep xs)) ≤ length (x ∷ xs)
+    choice true more = omega (arith, more)
+    choice false more = omega (arith, more)
+
+-- the grants that are left
+grants_left : (part : TreePart) (page : ℕ) → AreGroups part →
+    AreGrants (filter (λ grant. not (has_page grant.page (node_of page part.tree))) part.grants)
+    (without page part.tree) part.next_group
+grants_left part page sound =
+    let old = sound.grants in
+    let keep = λ (grant : Grant). not (has_page grant.page (node_of page part.tree)) in
+    record {
+      grants_name = all_filter _ keep part.grants old.grants_name;
+      grants_have_pages = all_kept (λ (grant : Grant). has_page grant.page part.tree ≡ true)
+          (λ (grant : Grant). has_page grant.page (without page part.tree) ≡ true) keep part.grants
+          (λ grant there kept. is_left part.tree part.next_page page grant.page sound.pages there
+          kept) old.grants_have_pages;
+      grants_rise = orders.rise_filter grant_key keep part.grants old.grants_rise;
+      grants_fit = let fewer = shorter keep part.grants in omega (arith, fewer, old.grants_fit);
+    }
+
+-- the world after a deletion that no rule refuses is sound
+pub deletion_keeps_sound : (part : TreePart) (now page : ℕ) → AreGroups part →
+    AllPages (λ id slug body. body.source ≡ None) part.tree → IsMoment now → (1 ≡ page → ⊥) →
+    AreGroups (without_page part now page)
+deletion_keeps_sound part now page sound regular moment other = record {
+  time = omega (arith, sound.time, moment);
+  pages = tree_left part.tree part.next_page page sound.pages other;
+  revisions = revisions_left part page sound;
+  bodies = bodies_left part page sound regular;
+  people = sound.people;
+  tasks = sound.tasks;
+  grants = grants_left part page sound;
+}

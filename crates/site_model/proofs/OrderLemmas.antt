@@ -5,7 +5,7 @@ use Rattle.std.specs.List.{AllByRecursion}
 use Rattle.page_tree.specs.Rows.{comes_before}
 use Rattle.tree_model.proofs.PageLemmas.{all_weaker}
 use Rattle.site_model.specs.Users.{put_in}
-use Rattle.site_model.specs.UserSound.{KeysRise}
+use Rattle.site_model.specs.Sound.{KeysRise}
 
 -- one number of two keys, each before the next
 before_step : (x y z : ℕ) (p q r : Bool) → (p ≡ true → q ≡ true → r ≡ true) →
@@ -14,7 +14,7 @@ before_step : (x y z : ℕ) (p q r : Bool) → (p ≡ true → q ≡ true → r 
 before_step x y z p q r h a b = grind (arith, nat_tests)
 
 -- what comes before a key comes before those that the key comes before
-before_trans : (a b c : List ℕ) → comes_before a b ≡ true → comes_before b c ≡ true →
+pub before_trans : (a b c : List ℕ) → comes_before a b ≡ true → comes_before b c ≡ true →
     comes_before a c ≡ true
 before_trans [] [] c h k = cc
 before_trans [] (y ∷ b) [] h k = cc

@@ -1,167 +1,223 @@
--- The world of a new site is one that is reached, and a step leads from such a world to such a one.
-use Rattle.std.proofs.Common.{◌≡◌, ◌≤◌, ℕ, not, List, [], filter, Option, None, Result, Ok, Err, refl, sym, ap, subst, arith}
-use Rattle.page_tree.specs.Tree.{has_page, node_of}
+-- A step leads from a world that is reached to one that is reached, whoever calls.
+use Rattle.std.proofs.Common.{◌≡◌, ℕ, true, not, List, [], ◌∷◌, map, Option, Some, None, Result, Ok, Err, refl, sym, ap, subst, ◌∙◌}
+use Rattle.std.specs.List.{AllByRecursion}
+use Rattle.page_tree.specs.Tree.{Forest, End, has_page, node_of, without}
+use Rattle.site_ids.specs.Moment.{IsMoment}
+use Rattle.site_types.specs.Content.{ContentValue}
+use Rattle.site_types.specs.declared.body.Body.{Body}
 use Rattle.site_types.specs.declared.command.Command.{Command}
 use Rattle.site_types.specs.declared.command.Command.TheVariants.{Create, Move, Delete, SetSlug, DefineUser, DefineGroup, Member, Grant}
 use Rattle.site_types.specs.declared.entry.Entry.{Entry}
 use Rattle.site_types.specs.declared.refusal.Refusal.{Refusal}
 use Rattle.site_types.specs.declared.reply.Reply.{Reply}
-use Rattle.site_types.specs.declared.reply.Reply.TheVariants.{Done, Id}
 use Rattle.site_types.specs.declared.revision.Revision.{Revision}
-use Rattle.site_model.specs.World.{World, TreePart, DeskPair, DeskText, Effect}
-use Rattle.site_model.specs.Start.{new_world}
-use Rattle.site_model.specs.Contents.{MAX_CONTENTS, contents_length}
-use Rattle.site_model.specs.Create.{created, page_reply, unless_refused}
-use Rattle.site_model.specs.Delete.{pages_of, unless_kept}
-use Rattle.site_model.specs.Users.{user_refusal, group_refusal, member_refusal, grant_refusal, with_user, with_group, with_member, with_grant}
-use Rattle.site_model.specs.Callers.{step_by, creation_refusal, moving_refusal, deletion_refusal, naming_refusal}
-use Rattle.site_model.specs.Step.{step, with_texts, texts_after}
-use Rattle.site_model.specs.Laws.{FitsCaller}
-use Rattle.site_model.specs.Reached.{IsReachedPart, IsReached}
-use Rattle.site_model.proofs.StartLemmas.{new_part_is_sound}
-use Rattle.site_model.proofs.UserSound.{new_part_has_users}
-use Rattle.site_model.proofs.DraftLemmas.{new_part_is_draft, step_keeps_drafts}
-use Rattle.site_model.proofs.ContentLemmas.{contents_length-filter}
-use Rattle.site_model.proofs.CreateLemmas.{same_ok, accepted_creation}
-use Rattle.site_model.proofs.DeletionSound.{accepted_deletion}
-use Rattle.site_model.proofs.MoveSound.{part_moved}
-use Rattle.site_model.proofs.SlugSound.{part_renamed}
-use Rattle.site_model.proofs.CallerLemmas.{creation_by}
-use Rattle.site_model.proofs.CallerSound.{step_by_keeps_sound}
+use Rattle.tree_model.specs.Places.{parent_at, place_at}
+use Rattle.tree_model.proofs.MoveLemmas.{AllPages-moved}
+use Rattle.tree_model.proofs.PageLemmas.{AllPages-graft, AllPages-without, AllPages-weaker}
+use Rattle.tree_model.proofs.RenameLemmas.{AllPages-renamed}
+use Rattle.tree_model.proofs.SiblingLemmas.{all_append}
+use Rattle.site_model.specs.World.{DeskPair, Desk, World, TreePart, Effect, pair_of, time_at}
+use Rattle.site_model.specs.Create.{new_page, plain_revision}
+use Rattle.site_model.specs.Desks.{desk_page, own_text, desks_after}
+use Rattle.site_model.specs.Step.{is_built, saving, step_by, step_with, with_desks, step_at, step}
+use Rattle.site_model.specs.Step as steps
+use Rattle.site_model.specs.Reached.{IsDraft, AreDrafts, IsPlain, HasNoneYet, IsReachedPart, IsReached}
+use Rattle.site_model.specs.Laws.{HasNoAlias, FitsCommand}
+use Rattle.site_model.proofs.AcceptLemmas.{accepted, same_ok}
+use Rattle.site_model.proofs.DeskSound.{settled_plain}
+use Rattle.site_model.proofs.Groups.{groups_of}
+use Rattle.site_model.proofs.Groups as groups
+use Rattle.site_model.proofs.OrderLemmas.{all_filter}
+use Rattle.site_model.proofs.StepSound.{built_sound}
 
--- the world of a new site is one that is reached: it has no revision and no open desk
-pub new_world_is_reached : (digest : List ℕ) → IsReached (new_world digest)
-new_world_is_reached digest = record {
-  part = record {
-    sound = new_part_is_sound digest;
-    users = new_part_has_users digest;
-    contents = omega arith;
-    drafts = new_part_is_draft digest;
-    no_desks = refl;
-  };
-  no_texts = refl;
+-- no page among drafts is an alias
+pub regular_drafts : (tree : Forest Body) → AreDrafts tree → HasNoAlias tree
+regular_drafts tree drafts =
+    AllPages-weaker (λ id slug body. IsDraft body) (λ id slug body. body.source ≡ None) tree
+    (λ id slug body draft. draft.no_alias) drafts
+
+-- what no command makes yet is not there in another part with the same pages, desks and workflows
+beside_pages : (part after : TreePart) → HasNoneYet part → part.tree ≡ after.tree →
+    part.revisions ≡ after.revisions → part.desk_pairs ≡ after.desk_pairs →
+    part.tasks ≡ after.tasks → part.workflows ≡ after.workflows → HasNoneYet after
+beside_pages part after none tree revisions pairs tasks workflows = record {
+  drafts = subst AreDrafts tree none.drafts;
+  plain = subst (λ list. AllByRecursion IsPlain list) revisions none.plain;
+  no_desk = subst (λ (list : List DeskPair). list ≡ []) pairs none.no_desk;
+  no_task = subst (λ (list : List (List ℕ)). list ≡ []) tasks none.no_task;
+  no_workflow = subst (λ (list : List (List ℕ)). list ≡ []) workflows none.no_workflow;
 }
 
--- What a step leaves beside what is sound: contents that have room, and no open desk, as none is
--- opened and none ends.
-record LeavesNoDesk (after : TreePart) (effect : Effect Reply) : Type 0 where
-  pub contents : contents_length after.revisions ≤ MAX_CONTENTS
-  pub no_desks : after.desk_pairs ≡ []
-  pub opened : effect.opened ≡ None
-  pub shut : effect.shut ≡ []
-
--- an accepted command that is no deletion leaves what stands in the world that it makes
-accepted_leaves : (refusal : Option Refusal) (part after : TreePart) (effect : Effect Reply)
-    (reply : Reply) → contents_length part.revisions ≤ MAX_CONTENTS → part.desk_pairs ≡ [] →
-    unless_refused refusal part reply ≡ Ok (after, effect) → LeavesNoDesk after effect
-accepted_leaves refusal part after effect reply room none is =
-    let same = accepted_creation refusal part after effect reply is in
+-- what no command makes yet, none that is built makes
+built_none : (part : TreePart) (desk : Option ContentValue) (now caller : ℕ)
+    (command : Command) → HasNoneYet part → is_built command ≡ true →
+    HasNoneYet (steps.effect part desk now caller command).part
+unfolding steps.effect
+built_none part desk now caller (Create parent slug content) none built =
+    let revision = plain_revision part.next_revision part.next_page caller (time_at part now)
+    content in
     record {
-      contents = subst (λ (one : TreePart). contents_length one.revisions ≤ MAX_CONTENTS) same.0
-          room;
-      no_desks = subst (λ (one : TreePart). one.desk_pairs ≡ []) same.0 none;
-      opened = ap (λ (one : Effect Reply). one.opened) same.1;
-      shut = ap (λ (one : Effect Reply). one.shut) same.1;
+      drafts = AllPages-graft (λ id slug body. IsDraft body) parent End
+          (new_page part caller slug) part.tree (
+            record {
+              no_alias = refl;
+              not_live = refl;
+              not_expired = refl;
+              never_published = refl;
+              not_published = refl;
+              no_schedule = refl;
+              no_lock = refl;
+              no_workflow = refl;
+              no_moderation = refl;
+              shows_latest = refl;
+            },
+            tt,
+            tt,
+          ) none.drafts;
+      plain = all_append IsPlain part.revisions (revision ∷ []) none.plain
+          (record { no_go_live = refl; no_expiry = refl }, tt);
+      no_desk = none.no_desk;
+      no_task = none.no_task;
+      no_workflow = none.no_workflow;
     }
+built_none part desk now caller (Move page target position) none built = record {
+  drafts = AllPages-moved (λ id slug body. IsDraft body) page (parent_at part.tree target position)
+      (place_at (without page part.tree) target position) part.tree none.drafts;
+  plain = none.plain;
+  no_desk = none.no_desk;
+  no_task = none.no_task;
+  no_workflow = none.no_workflow;
+}
+built_none part desk now caller (Delete page) none built = record {
+  drafts = AllPages-without (λ id slug body. IsDraft body) page part.tree none.drafts;
+  plain = all_filter IsPlain
+      (λ (revision : Revision). not (has_page revision.page (node_of page part.tree)))
+      part.revisions none.plain;
+  no_desk = none.no_desk;
+  no_task = none.no_task;
+  no_workflow = none.no_workflow;
+}
+built_none part desk now caller (SetSlug page slug) none built = record {
+  drafts = AllPages-renamed (λ id slug body. IsDraft body) page slug part.tree
+      (λ id slug body draft. draft) none.drafts;
+  plain = none.plain;
+  no_desk = none.no_desk;
+  no_task = none.no_task;
+  no_workflow = none.no_workflow;
+}
+built_none part desk now caller (DefineUser superuser digest) none built =
+    beside_pages part _ none refl refl refl refl refl
+built_none part desk now caller DefineGroup none built =
+    beside_pages part _ none refl refl refl refl refl
+built_none part desk now caller (Member user group on) none built =
+    beside_pages part _ none refl refl refl refl refl
+built_none part desk now caller (Grant group page permission on) none built =
+    beside_pages part _ none refl refl refl refl refl
+built_none part desk now caller _ none built = absurd (cc)
 
--- an accepted deletion takes revisions away, and of no desk none ends
-deletion_leaves : (refusal : Option Refusal) (part after : TreePart) (effect : Effect Reply)
-    (now page : ℕ) → contents_length part.revisions ≤ MAX_CONTENTS → part.desk_pairs ≡ [] →
-    unless_kept refusal part now page ≡ Ok (after, effect) → LeavesNoDesk after effect
-deletion_leaves refusal part after effect now page room none is =
-    let done = accepted_deletion refusal part after effect now page is in
-    let gone = node_of page part.tree in
-    let fewer = contents_length-filter (λ (revision : Revision). not (has_page revision.page gone))
-    part.revisions in
-    record {
-      contents = subst (λ (one : TreePart). contents_length one.revisions ≤ MAX_CONTENTS) done.1
-          (omega (arith, fewer, room));
-      no_desks = subst (λ (one : TreePart). one.desk_pairs ≡ []) done.1
-          (ap (λ (desks : List DeskPair). filter (λ desk. not (has_page desk.page gone)) desks)
-          none);
-      opened = ap (λ (one : Effect Reply). one.opened) done.2;
-      shut = subst (λ (one : Effect Reply). one.shut ≡ []) (sym done.2)
-          (ap (λ (desks : List DeskPair). filter (λ id. has_page id gone) (pages_of desks)) none);
-    }
+-- a part in which no desk is open is reached
+without_desks : (part : TreePart) (pairs : List DeskPair) → groups.AreGroups part →
+    HasNoneYet part → pairs ≡ [] → IsReachedPart (record part { desk_pairs = pairs })
+without_desks part pairs sound none empty =
+    subst (λ (list : List DeskPair). IsReachedPart (record part { desk_pairs = list })) (sym empty)
+    (record {
+      sound = groups.with_desks part [] sound (groups.no_desks part);
+      none_yet = record {
+        drafts = none.drafts;
+        plain = none.plain;
+        no_desk = refl;
+        no_task = none.no_task;
+        no_workflow = none.no_workflow;
+      };
+    })
 
--- each command that is built leaves such a world, and no other is accepted
-step_leaves : (before after : TreePart) (effect : Effect Reply) (now caller : ℕ)
-    (command : Command) → contents_length before.revisions ≤ MAX_CONTENTS →
-    before.desk_pairs ≡ [] → step_by before now caller command ≡ Ok (after, effect) →
-    LeavesNoDesk after effect
-unfolding step_by
-step_leaves before after effect now caller (Create parent slug content) room none is =
-    let made = created before now caller parent slug content in
-    let one = creation_by before after effect now caller parent slug content is in
-    accepted_leaves (creation_refusal before made caller parent slug) made after effect
-    (page_reply before.next_page made.tree) one.2 none is
-step_leaves before after effect now caller (Move page target position) room none is =
-    let made = part_moved before now page target position in
-    accepted_leaves (moving_refusal before caller page target position) made after effect
-    (page_reply page made.tree) room none is
-step_leaves before after effect now caller (Delete page) room none is =
-    deletion_leaves (deletion_refusal before caller page) before after effect now page room none is
-step_leaves before after effect now caller (SetSlug page slug) room none is =
-    let made = part_renamed before now page slug in
-    accepted_leaves (naming_refusal before caller page slug) made after effect
-    (page_reply page made.tree) room none is
-step_leaves before after effect now caller (DefineUser superuser digest) room none is =
-    accepted_leaves (user_refusal before caller digest) (with_user before now superuser digest)
-    after effect (Id before.next_user) room none is
-step_leaves before after effect now caller DefineGroup room none is =
-    accepted_leaves (group_refusal before caller) (with_group before now) after effect
-    (Id before.next_group) room none is
-step_leaves before after effect now caller (Member user group on) room none is =
-    accepted_leaves (member_refusal before caller user group on)
-    (with_member before now user group on) after effect Done room none is
-step_leaves before after effect now caller (Grant group page permission on) room none is =
-    accepted_leaves (grant_refusal before caller group page permission on)
-    (with_grant before now group page permission on) after effect Done room none is
-step_leaves before after effect now caller _ room none is = absurd (cc)
+-- What a step leaves of a part that is reached.
+pub record LeavesReached (after : TreePart) (told : Effect) : Type 0 where
+  pub part : IsReachedPart after
+  pub opened : told.opened ≡ None
+  pub ended : told.ended ≡ []
 
--- A step of the tree part leads to what is reached, and opens and ends no desk.
-pub step_by_keeps_reached : (before after : TreePart) (effect : Effect Reply) (now caller : ℕ)
-    (command : Command) → IsReachedPart before → FitsCaller command →
-    step_by before now caller command ≡ Ok (after, effect) →
-    IsReachedPart after × (effect.opened ≡ None) × (effect.shut ≡ [])
-step_by_keeps_reached before after effect now caller command reached fits is =
-    let both = step_by_keeps_sound before after effect now caller command reached.sound
-    reached.users fits is in
-    let left = step_leaves before after effect now caller command reached.contents reached.no_desks
-    is in (
-      record {
-        sound = both.0;
-        users = both.1;
-        contents = left.contents;
-        drafts = step_keeps_drafts before after effect now caller command reached.drafts is;
-        no_desks = left.no_desks;
-      },
-      left.opened,
-      left.shut,
-    )
+-- A step of the tree part leads to what is reached; it opens no desk, and none ends.
+step_leaves : (before after : TreePart) (told : Effect) (desk : Option ContentValue)
+    (now caller : ℕ) (command : Command) → IsReachedPart before → IsMoment now →
+    FitsCommand command → step_by before desk now caller command ≡ Ok (after, told) →
+    LeavesReached after told
+step_leaves before after told desk now caller command reached moment fits is =
+    let one = accepted before after told desk now caller command is in
+    let deed = steps.effect before desk now caller command in
+    let kept = built_sound before desk now caller command (groups_of before reached.sound)
+    (regular_drafts before.tree reached.none_yet.drafts) moment fits one.front one.built one.own in
+    let none = built_none before desk now caller command reached.none_yet one.built in
+    let page = desk_page command in
+    let plain = settled_plain caller page deed kept.opened in
+    subst (λ (made : TreePart × Effect). LeavesReached made.0 made.1) (sym plain ∙ one.done)
+    (record {
+      part = without_desks deed.part _ kept.sound none (rw (none.no_desk) refl);
+      opened = refl;
+      ended = rw (none.no_desk) refl;
+    })
 
--- of no texts none is left where no desk is opened and none ends
-texts_left : (texts : List DeskText)
-    (result : Result (TreePart × Effect Reply) Refusal) (after : World) (reply : Reply) →
-    texts ≡ [] →
-    ((part : TreePart) (effect : Effect Reply) → result ≡ Ok (part, effect) →
-    IsReachedPart part × (effect.opened ≡ None) × (effect.shut ≡ [])) →
-    with_texts texts result ≡ Ok (after, reply) → IsReached after
-texts_left texts (Err refusal) after reply none follows is = absurd (cc)
-texts_left texts (Ok done) after reply none follows is =
+-- the same as three facts
+pub step_by_keeps_reached : (before after : TreePart) (told : Effect)
+    (desk : Option ContentValue) (now caller : ℕ) (command : Command) →
+    IsReachedPart before → IsMoment now → FitsCommand command →
+    step_by before desk now caller command ≡ Ok (after, told) →
+    IsReachedPart after × (told.opened ≡ None) × (told.ended ≡ [])
+step_by_keeps_reached before after told desk now caller command reached moment fits is =
+    let left = step_leaves before after told desk now caller command reached moment fits is in
+    (left.part, left.opened, left.ended)
+
+-- of no desks there are none
+no_texts : (desks : List Desk) → map pair_of desks ≡ [] → desks ≡ []
+no_texts [] is = refl
+no_texts (desk ∷ desks) is = absurd (cc)
+
+-- what is made of no desks by a step that opens none
+step_leaves_none : (desks : List Desk) (result : Result (TreePart × Effect) Refusal)
+    (after : World) (reply : Reply) → desks ≡ [] →
+    ((part : TreePart) (told : Effect) → result ≡ Ok (part, told) →
+    IsReachedPart part × (told.opened ≡ None) × (told.ended ≡ [])) →
+    with_desks desks result ≡ Ok (after, reply) → IsReached after
+step_leaves_none desks (Err refusal) after reply none follows is = absurd (cc)
+step_leaves_none desks (Ok done) after reply none follows is =
     let part = follows done.0 done.1 refl in
-    let made : World = record { part = done.0; texts = texts_after done.1 texts } in
+    let made : World = record { part = done.0; desks = desks_after done.1 desks } in
     let pair = same_ok {E = Refusal} (made, done.1.reply) (after, reply) is in
-    subst IsReached (ap (λ (p : World × Reply). p.0) pair)
-    (record { part = part.0; no_texts = rw (part.1, part.2, none) refl })
+    let empty : desks_after done.1 desks ≡ [] = rw (part.1, part.2, none) refl in
+    subst IsReached (ap (λ (p : World × Reply). p.0) pair) (record {
+      sound = record {
+        part = part.0.sound;
+        desks_match = rw (empty, part.0.none_yet.no_desk) refl;
+        texts = rw empty tt;
+      };
+      none_yet = part.0.none_yet;
+    })
 
--- A step leads to a world that is reached.
+-- no text is found at no desk
+no_own_text : (caller : ℕ) (page : Option ℕ) → own_text [] caller page ≡ None
+no_own_text caller None = refl
+no_own_text caller (Some page) = refl
+
+-- A step leads to a world that is reached: nobody has a desk to save.
 pub step_keeps_reached : (before after : World) (reply : Reply) (entry : Entry) →
-    IsReached before → FitsCaller entry.command → step before entry ≡ Ok (after, reply) →
-    IsReached after
-unfolding step
-step_keeps_reached before after reply entry reached fits is =
-    texts_left before.texts
-    (step_by before.part entry.moment entry.caller entry.command) after reply reached.no_texts
-    (λ part effect one. step_by_keeps_reached before.part part effect entry.moment entry.caller
-    entry.command reached.part fits one) is
+    IsReached before → IsMoment entry.moment → FitsCommand entry.command →
+    step before entry ≡ Ok (after, reply) → IsReached after
+unfolding step_at
+step_keeps_reached before after reply entry reached moment fits is =
+    choice (saving entry.command) is
+  where
+    part : IsReachedPart before.part
+    part = record { sound = reached.sound.part; none_yet = reached.none_yet }
+
+    none : before.desks ≡ []
+    none = no_texts before.desks (reached.sound.desks_match ∙ reached.none_yet.no_desk)
+
+    choice : (saved : Option (ℕ × ContentValue)) →
+        step_with before entry.moment entry.caller entry.command saved ≡ Ok (after, reply) →
+        IsReached after
+    choice None h =
+        step_leaves_none before.desks _ after reply none
+        (λ made told one. step_by_keeps_reached before.part made told
+        (own_text before.desks entry.caller (desk_page entry.command)) entry.moment entry.caller
+        entry.command part moment fits one) h
+    choice (Some pair) h = let no = rw none at h in absurd (cc)

@@ -1,29 +1,211 @@
--- A step of the tree part keeps a world sound.
-use Rattle.std.proofs.Common.{◌≡◌, ℕ, Ok}
+-- Each command that is built keeps a world without aliases sound, its desks aside.
+use Rattle.std.proofs.Common.{◌≡◌, ◌≤◌, ℕ, Bool, true, false, cond, ◌||◌, ◌&&◌, nat_eq, List, [], ◌∷◌, Option, None, refl, sym, arith}
+use Rattle.page_tree.specs.Tree.{End, without}
+use Rattle.site_ids.specs.Moment.{IsMoment}
+use Rattle.site_types.specs.Content.{ContentValue}
 use Rattle.site_types.specs.declared.command.Command.{Command}
-use Rattle.site_types.specs.declared.command.Command.TheVariants.{Create, Move, Delete, SetSlug}
-use Rattle.site_types.specs.declared.reply.Reply.{Reply}
-use Rattle.site_model.specs.World.{TreePart, Effect}
-use Rattle.site_model.specs.Step.{tree_step}
-use Rattle.site_model.specs.Sound.{IsSound, FitsPart}
+use Rattle.site_types.specs.declared.command.Command.TheVariants.{Create, Move, Delete, SetSlug, DefineUser, DefineGroup, Member, Grant}
+use Rattle.site_types.specs.declared.permission.Permission.{Permission}
+use Rattle.site_types.specs.declared.permission.Permission.TheVariants.{Add}
+use Rattle.site_types.specs.declared.position.Position.{Position}
+use Rattle.site_types.specs.declared.refusal.Refusal.TheVariants.{IsRoot}
+use Rattle.tree_model.specs.Places.{is_beside, parent_at, place_at}
+use Rattle.tree_model.proofs.CountLemmas.{apart_by_test}
+use Rattle.tree_model.proofs.MoveLemmas.{AllPages-moved}
+use Rattle.tree_model.proofs.PageLemmas.{AllPages-graft, AllPages-without}
+use Rattle.tree_model.proofs.RenameLemmas.{AllPages-renamed}
+use Rattle.site_model.specs.World.{TreePart, Deed}
+use Rattle.site_model.specs.Rules.{are_root}
+use Rattle.site_model.specs.Needs.{needs_of, create_needs, move_needs, delete_needs, slug_needs, superuser_needs}
+use Rattle.site_model.specs.Front.{StopsNobody, StopsOthers, row_of, naming, on_page, on_move, front_rules}
+use Rattle.site_model.specs.Create.{new_page}
+use Rattle.site_model.specs.Step.{is_built, rules}
+use Rattle.site_model.specs.Step as steps
+use Rattle.site_model.specs.Laws.{HasNoAlias, FitsCommand}
+use Rattle.site_model.proofs.AcceptLemmas.{front_parts, page_found}
+use Rattle.site_model.proofs.ClearLemmas.{test_clear, neither}
 use Rattle.site_model.proofs.CreationSound.{creation_keeps_sound}
 use Rattle.site_model.proofs.DeletionSound.{deletion_keeps_sound}
-use Rattle.site_model.proofs.SlugSound.{slug_keeps_sound}
+use Rattle.site_model.proofs.GrantSound.{grant_keeps_sound}
+use Rattle.site_model.proofs.Groups.{AreGroups}
 use Rattle.site_model.proofs.MoveSound.{move_keeps_sound}
+use Rattle.site_model.proofs.PeopleSound.{user_keeps_sound, group_keeps_sound, member_keeps_sound}
+use Rattle.site_model.proofs.SlugSound.{slug_keeps_sound}
+use Rattle.site_model.proofs.StrangerLemmas.{maker_is_user}
 
--- each command that is built keeps it sound, and no other is accepted
-pub step_keeps_sound : (before after : TreePart) (effect : Effect Reply) (now caller : ℕ)
-    (command : Command) →
-    IsSound before → FitsPart before command →
-    tree_step before now caller command ≡ Ok (after, effect) → IsSound after
-unfolding tree_step
-step_keeps_sound before after effect now caller (Create parent slug content) sound fits is =
-    creation_keeps_sound before after effect now caller parent slug content sound fits.1
-    fits.0 is
-step_keeps_sound before after effect now caller (Move page target position) sound fits is =
-    move_keeps_sound before after effect now page target position sound is
-step_keeps_sound before after effect now caller (Delete page) sound fits is =
-    deletion_keeps_sound before after effect now page sound is
-step_keeps_sound before after effect now caller (SetSlug page slug) sound fits is =
-    slug_keeps_sound before after effect now page slug sound fits is
-step_keeps_sound before after effect now caller _ sound fits is = absurd (cc)
+-- What a command does to a sound part without aliases, before its desks are looked at.
+pub record KeepsSound (part : TreePart) (deed : Deed) : Type 0 where
+  pub sound : AreGroups deed.part
+  pub regular : HasNoAlias deed.part.tree
+  pub opened : deed.opened ≡ None
+  pub pairs : deed.part.desk_pairs ≡ part.desk_pairs
+  pub users : part.next_user ≤ deed.part.next_user
+
+-- a page that may not be the root is not
+below_root : (page : ℕ) → are_root (page ∷ []) ≡ None → 1 ≡ page → ⊥
+below_root page none same =
+    let tests = neither (nat_eq page 1) false (test_clear _ IsRoot none) in
+    apart_by_test page 1 tests.0 (sym same)
+
+-- of a move neither the page is, nor a target that would be its sibling
+move_below_root : (page target : ℕ) (beside : Bool) →
+    are_root (cond beside (page ∷ target ∷ []) (page ∷ [])) ≡ None →
+    (1 ≡ page → ⊥) × ((nat_eq target 1 && beside) ≡ false)
+move_below_root page target true none =
+    let tests = neither (nat_eq page 1) (nat_eq target 1 || false) (test_clear _ IsRoot none) in
+    let last = neither (nat_eq target 1) false tests.1 in
+    ((λ same. apart_by_test page 1 tests.0 (sym same)), rw (last.0) refl)
+move_below_root page target false none =
+    (below_root page none, no_sibling (nat_eq target 1))
+  where
+    no_sibling : (t : Bool) → (t && false) ≡ false
+    no_sibling true = refl
+    no_sibling false = refl
+
+-- a creation
+create_sound : (part : TreePart) (desk : Option ContentValue) (now caller parent : ℕ)
+    (slug : List ℕ) (content : ContentValue) → AreGroups part → HasNoAlias part.tree →
+    IsMoment now → FitsCommand (Create parent slug content) →
+    front_rules part caller (Create parent slug content) ≡ None →
+    rules part desk now caller (Create parent slug content) ≡ None →
+    KeepsSound part (steps.effect part desk now caller (Create parent slug content))
+unfolding front_rules row_of needs_of rules steps.effect
+create_sound part desk now caller parent slug content sound regular moment fits front own =
+    let parts = front_parts part caller (naming (parent ∷ []) []) (create_needs part caller parent)
+    front in
+    let found = page_found part.tree parent [] parts.pages in
+    let user = maker_is_user part caller parent Add sound.people parts.may in
+    record {
+      sound = creation_keeps_sound part now caller parent slug content sound regular found.0 fits.0
+          fits.1 moment user own;
+      regular = AllPages-graft (λ id slug body. body.source ≡ None) parent End
+          (new_page part caller slug) part.tree (refl, tt, tt) regular;
+      opened = refl;
+      pairs = refl;
+      users = omega arith;
+    }
+
+-- a move
+move_sound : (part : TreePart) (desk : Option ContentValue) (now caller page target : ℕ)
+    (position : Position) → AreGroups part → HasNoAlias part.tree → IsMoment now →
+    front_rules part caller (Move page target position) ≡ None →
+    rules part desk now caller (Move page target position) ≡ None →
+    KeepsSound part (steps.effect part desk now caller (Move page target position))
+unfolding front_rules row_of needs_of rules steps.effect
+move_sound part desk now caller page target position sound regular moment front own =
+    let parts = front_parts part caller (on_move page target position)
+    (move_needs part caller page target position) front in
+    let found = page_found part.tree page (target ∷ []) parts.pages in
+    let there = page_found part.tree target [] found.1 in
+    let below = move_below_root page target (is_beside position) parts.below in
+    record {
+      sound = move_keeps_sound part now page target position sound regular moment found.0 there.0
+          below.0 below.1 own;
+      regular = AllPages-moved (λ id slug body. body.source ≡ None) page
+          (parent_at part.tree target position)
+          (place_at (without page part.tree) target position) part.tree regular;
+      opened = refl;
+      pairs = refl;
+      users = omega arith;
+    }
+
+-- a deletion
+delete_sound : (part : TreePart) (desk : Option ContentValue) (now caller page : ℕ) →
+    AreGroups part → HasNoAlias part.tree → IsMoment now →
+    front_rules part caller (Delete page) ≡ None →
+    KeepsSound part (steps.effect part desk now caller (Delete page))
+unfolding front_rules row_of needs_of steps.effect
+delete_sound part desk now caller page sound regular moment front =
+    let parts = front_parts part caller (on_page page StopsOthers false StopsNobody)
+    (delete_needs part caller page) front in
+    record {
+      sound = deletion_keeps_sound part now page sound regular moment (below_root page parts.below);
+      regular = AllPages-without (λ id slug body. body.source ≡ None) page part.tree regular;
+      opened = refl;
+      pairs = refl;
+      users = omega arith;
+    }
+
+-- another slug
+slug_sound : (part : TreePart) (desk : Option ContentValue) (now caller page : ℕ)
+    (slug : List ℕ) → AreGroups part → HasNoAlias part.tree → IsMoment now →
+    FitsCommand (SetSlug page slug) → front_rules part caller (SetSlug page slug) ≡ None →
+    rules part desk now caller (SetSlug page slug) ≡ None →
+    KeepsSound part (steps.effect part desk now caller (SetSlug page slug))
+unfolding front_rules row_of needs_of rules steps.effect
+slug_sound part desk now caller page slug sound regular moment fits front own =
+    let parts = front_parts part caller (on_page page StopsOthers false StopsOthers)
+    (slug_needs part caller page) front in
+    record {
+      sound = slug_keeps_sound part now page slug sound regular moment fits
+          (below_root page parts.below) own;
+      regular = AllPages-renamed (λ id slug body. body.source ≡ None) page slug part.tree
+          (λ id slug body is. is) regular;
+      opened = refl;
+      pairs = refl;
+      users = omega arith;
+    }
+
+-- a grant
+grant_sound : (part : TreePart) (desk : Option ContentValue) (now caller group page : ℕ)
+    (permission : Permission) (on : Bool) → AreGroups part → HasNoAlias part.tree → IsMoment now →
+    front_rules part caller (Grant group page permission on) ≡ None →
+    rules part desk now caller (Grant group page permission on) ≡ None →
+    KeepsSound part (steps.effect part desk now caller (Grant group page permission on))
+unfolding front_rules row_of needs_of rules steps.effect
+grant_sound part desk now caller group page permission on sound regular moment front own =
+    let parts = front_parts part caller (naming (page ∷ []) []) (superuser_needs part caller) front
+    in
+    let found = page_found part.tree page [] parts.pages in
+    record {
+      sound = grant_keeps_sound part now group page permission on sound moment found.0 own;
+      regular = regular;
+      opened = refl;
+      pairs = refl;
+      users = omega arith;
+    }
+
+-- each command that is built, and no other is accepted
+pub built_sound : (part : TreePart) (desk : Option ContentValue) (now caller : ℕ)
+    (command : Command) → AreGroups part → HasNoAlias part.tree → IsMoment now →
+    FitsCommand command → front_rules part caller command ≡ None → is_built command ≡ true →
+    rules part desk now caller command ≡ None →
+    KeepsSound part (steps.effect part desk now caller command)
+unfolding rules steps.effect
+built_sound part desk now caller (Create parent slug content) sound regular moment fits front built
+    own =
+    create_sound part desk now caller parent slug content sound regular moment fits front own
+built_sound part desk now caller (Move page target position) sound regular moment fits front built
+    own =
+    move_sound part desk now caller page target position sound regular moment front own
+built_sound part desk now caller (Delete page) sound regular moment fits front built own =
+    delete_sound part desk now caller page sound regular moment front
+built_sound part desk now caller (SetSlug page slug) sound regular moment fits front built own =
+    slug_sound part desk now caller page slug sound regular moment fits front own
+built_sound part desk now caller (DefineUser superuser digest) sound regular moment fits front built
+    own = record {
+      sound = user_keeps_sound part now superuser digest sound moment fits own;
+      regular = regular;
+      opened = refl;
+      pairs = refl;
+      users = omega arith;
+    }
+built_sound part desk now caller DefineGroup sound regular moment fits front built own = record {
+  sound = group_keeps_sound part now sound moment own;
+  regular = regular;
+  opened = refl;
+  pairs = refl;
+  users = omega arith;
+}
+built_sound part desk now caller (Member user group on) sound regular moment fits front built own =
+    record {
+      sound = member_keeps_sound part now user group on sound moment own;
+      regular = regular;
+      opened = refl;
+      pairs = refl;
+      users = omega arith;
+    }
+built_sound part desk now caller (Grant group page permission on) sound regular moment fits front
+    built own =
+    grant_sound part desk now caller group page permission on sound regular moment front own
+built_sound part desk now caller _ sound regular moment fits front built own = absurd (cc)

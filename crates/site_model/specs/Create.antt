@@ -1,16 +1,18 @@
--- The command that creates a page: its refusals, in the order of their rules, and its effect.
-use Rattle.std.specs.Prelude.{ℕ, ◌+◌, false, List, [], ◌∷◌, ◌++◌, Option, Some, None, Result, Ok, Err}
+-- The command that creates a page: its own rules, in their order, and its effect.
+use Rattle.std.specs.Prelude.{ℕ, ◌+◌, false, List, [], ◌∷◌, ◌++◌, Option, Some, None}
 use Rattle.page_tree.specs.Tree.{Forest, bare, grown, End, graft}
+use Rattle.page_tree.specs.Rows.{rows_of}
 use Rattle.page_tree.specs.Walk.{path_of, url_of}
 use Rattle.step_path.specs.Path.{path_text}
+use Rattle.site_ids.specs.declared.ids.TheConstants.{LAST_PAGE_ID, LAST_REVISION_ID}
 use Rattle.site_types.specs.Content.{ContentValue}
 use Rattle.site_types.specs.declared.body.Body.{Body}
 use Rattle.site_types.specs.declared.revision.Revision.{Revision}
 use Rattle.site_types.specs.declared.refusal.Refusal.{Refusal}
 use Rattle.site_types.specs.declared.reply.Reply.{Reply}
 use Rattle.site_types.specs.declared.reply.Reply.TheVariants.{Page}
-use Rattle.site_model.specs.Rules.{first_of, no_page, slug_taken, steps_full, too_deep, url_too_long}
-use Rattle.site_model.specs.World.{TreePart, Effect, time_at}
+use Rattle.site_model.specs.World.{TreePart, Deed, time_at}
+use Rattle.site_model.specs.Rules.{first_of, slug_taken, steps_full, too_deep, url_too_long, ids_full, content_full}
 
 -- What is kept of a page that was just made: it is its maker's, not live, and shows its one
 -- revision, the latest.
@@ -66,27 +68,31 @@ created part now caller parent slug content =
           (time_at part now) content ∷ [];
     }
 
--- why a creation is refused, where the tree would then be this one
-abbrev pub create_refusal : Forest Body → Forest Body → ℕ → List ℕ → Option Refusal
-create_refusal tree after parent slug =
+-- a change of the tree part with this reply, which opens no desk and shuts none
+abbrev pub plain_deed : TreePart → Reply → Deed
+plain_deed part reply = record { part = part; reply = reply; opened = None; shut = false }
+
+-- what refuses a creation, where the world would then be the second
+abbrev pub creation_rules : TreePart → TreePart → ℕ → List ℕ → Option Refusal
+creation_rules part after parent slug =
+    let rows = rows_of after.tree in
     first_of
-    (no_page tree parent
-    ∷ slug_taken tree parent slug
-    ∷ steps_full tree parent End
-    ∷ too_deep after
-    ∷ url_too_long after
+    (slug_taken part.tree parent slug
+    ∷ steps_full rows
+    ∷ too_deep rows
+    ∷ url_too_long rows
+    ∷ ids_full LAST_PAGE_ID part.next_page
+    ∷ ids_full LAST_REVISION_ID part.next_revision
+    ∷ content_full after.revisions
     ∷ [])
 
--- what becomes of a command that no rule refuses, or the refusal
-abbrev pub unless_refused : Option Refusal → TreePart → Reply →
-    Result (TreePart × Effect Reply) Refusal
-unless_refused (Some refusal) part reply = Err refusal
-unless_refused None part reply = Ok (part, record { reply = reply; opened = None; shut = [] })
+-- the rules of a creation by a caller at a moment
+abbrev pub create_rules : TreePart → ℕ → ℕ → ℕ → List ℕ → ContentValue → Option Refusal
+create_rules part now caller parent slug content =
+    creation_rules part (created part now caller parent slug content) parent slug
 
--- a creation by a caller at a moment
-abbrev pub create : TreePart → ℕ → ℕ → ℕ → List ℕ → ContentValue →
-    Result (TreePart × Effect Reply) Refusal
+-- what a creation does
+abbrev pub create : TreePart → ℕ → ℕ → ℕ → List ℕ → ContentValue → Deed
 create part now caller parent slug content =
     let after = created part now caller parent slug content in
-    unless_refused (create_refusal part.tree after.tree parent slug) after
-    (page_reply part.next_page after.tree)
+    plain_deed after (page_reply part.next_page after.tree)

@@ -1,30 +1,174 @@
--- The laws of the world, each proved in src/laws.rt: what a creation does not name stays as it was,
--- and the world of a new site is sound and stays so.
-use Rattle.std.specs.Prelude.{◌≡◌, ℕ, ◌+◌, ◌≤◌, Bool, ◌==◌, true, false, not, filter, List, [], ◌∷◌, ◌++◌, length, None, Some, Ok, max}
-use Rattle.page_tree.specs.Tree.{HasDistinctIds, has_page}
+-- The laws of the world, each proved in src/laws.rt.
+use Rattle.std.specs.Prelude.{◌≡◌, ℕ, ◌≤◌, ◌==◌, ◌||◌, true, false, not, filter, List, [], ◌∷◌, ◌++◌, length, Option, Some, None, Ok, Err, IfSome, max}
+use Rattle.std.specs.List.{AllByRecursion}
+use Rattle.page_tree.specs.Tree.{Forest, HasDistinctIds, has_page}
 use Rattle.page_tree.specs.Rows.{Row, rows_of, raise_count}
-use Rattle.site_types.specs.Content.{ContentValue, content_form}
-use Rattle.site_types.specs.declared.reply.Reply.{Reply}
-use Rattle.site_model.specs.World.{World, TreePart, Effect}
-use Rattle.site_model.specs.Create.{create, plain_revision}
+use Rattle.site_ids.specs.declared.digest.TheConstants.{DIGEST_BYTES}
+use Rattle.site_ids.specs.Moment.{IsMoment}
 use Rattle.site_ids.specs.Slug.{IsSlug}
-use Rattle.site_types.specs.declared.position.Position.{Position}
-use Rattle.site_model.specs.Start.{new_part, new_world}
-use Rattle.site_model.specs.Moves.{move}
-use Rattle.site_model.specs.Delete.{delete}
-use Rattle.site_model.specs.Slugs.{set_slug}
+use Rattle.site_types.specs.Content.{ContentValue, FitsLimits}
+use Rattle.site_types.specs.declared.body.Body.{Body}
 use Rattle.site_types.specs.declared.command.Command.{Command}
 use Rattle.site_types.specs.declared.command.Command.TheVariants as commands
-use Rattle.site_model.specs.Step.{tree_step, step}
-use Rattle.site_model.specs.Sound.{IsSound, HasIdsLeft, FitsPart}
-use Rattle.site_model.specs.Callers.{step_by}
-use Rattle.site_model.specs.UserSound.{AreUsers}
-use Rattle.site_model.specs.Rights.{is_superuser, any_live}
-use Rattle.site_model.specs.Needs.{edit_need}
-use Rattle.site_model.specs.Drafts.{AreDrafts, draft_need}
-use Rattle.site_model.specs.Contents.{MAX_CONTENTS, contents_length}
-use Rattle.site_model.specs.Reached.{IsReachedPart, IsReached}
 use Rattle.site_types.specs.declared.entry.Entry.{Entry}
+use Rattle.site_types.specs.declared.permission.Permission.{Permission}
+use Rattle.site_types.specs.declared.refusal.Refusal.TheVariants.{Denied}
+use Rattle.site_types.specs.declared.reply.Reply.{Reply}
+use Rattle.tree_model.specs.Shape.{AllPages}
+use Rattle.site_model.specs.World.{World, TreePart, DeskPair, Deed, Effect}
+use Rattle.site_model.specs.Limits.{MAX_NAMED}
+use Rattle.site_model.specs.Rights.{is_superuser, has, is_granted}
+use Rattle.site_model.specs.Rules.{first_of}
+use Rattle.site_model.specs.Front.{front_rules}
+use Rattle.site_model.specs.Views.{any_live}
+use Rattle.site_model.specs.Needs.{may, edit_need}
+use Rattle.site_model.specs.Create.{plain_revision}
+use Rattle.site_model.specs.Desks.{stays}
+use Rattle.site_model.specs.Step.{is_built, rules, effect, unless_refused, step_by, step}
+use Rattle.site_model.specs.Parts.{part_of, touches}
+use Rattle.site_model.specs.Start.{new_world}
+use Rattle.site_model.specs.Sound.{IsSound, NumbersRise}
+use Rattle.site_model.specs.Reached.{AreDrafts, IsReachedPart, IsReached, draft_need}
+
+-- A list of ids in a command: 1 to 16 of them.
+pub record FitsList (ids : List ℕ) : Type 0 where
+  pub not_empty : 1 ≤ length ids
+  pub fits : length ids ≤ MAX_NAMED
+
+-- What a command has to be of itself, so that it keeps a world sound: its slug is a slug, its
+-- content is within its limits, and so on; values of their types are nothing else.
+abbrev pub FitsCommand : Command → Type 0
+FitsCommand (commands.Create parent slug content) = IsSlug slug × FitsLimits content
+FitsCommand (commands.Move page target position) = Unit {0}
+FitsCommand (commands.Delete page) = Unit {0}
+FitsCommand (commands.SetSlug page slug) = IsSlug slug
+FitsCommand (commands.Alias source parent slug) = IsSlug slug
+FitsCommand (commands.Detach page) = Unit {0}
+FitsCommand (commands.Copy page parent slug deep) = IsSlug slug
+FitsCommand (commands.OpenDesk page) = Unit {0}
+FitsCommand (commands.SaveDesk page content) = FitsLimits content
+FitsCommand (commands.ShutDesk page) = Unit {0}
+FitsCommand (commands.File page go_live expire) = IfSome go_live IsMoment × IfSome expire IsMoment
+FitsCommand (commands.Publish page) = Unit {0}
+FitsCommand (commands.Unpublish page) = Unit {0}
+FitsCommand (commands.Unschedule page) = Unit {0}
+FitsCommand (commands.Lock page) = Unit {0}
+FitsCommand (commands.Unlock page) = Unit {0}
+FitsCommand (commands.Purge page) = Unit {0}
+FitsCommand (commands.DefineTask groups) = FitsList groups × NumbersRise 0 groups
+FitsCommand (commands.DefineWorkflow tasks) = FitsList tasks
+FitsCommand (commands.Assign page workflow) = Unit {0}
+FitsCommand (commands.Submit page) = Unit {0}
+FitsCommand (commands.Approve page) = Unit {0}
+FitsCommand (commands.Reject page) = Unit {0}
+FitsCommand (commands.Cancel page) = Unit {0}
+FitsCommand (commands.DefineUser superuser digest) = length digest ≡ DIGEST_BYTES
+FitsCommand commands.DefineGroup = Unit {0}
+FitsCommand (commands.Member user group on) = Unit {0}
+FitsCommand (commands.Grant group page permission on) = Unit {0}
+FitsCommand commands.Tick = Unit {0}
+
+-- no page is an alias
+abbrev pub HasNoAlias : Forest Body → Type 0
+HasNoAlias tree = AllPages (λ id slug body. body.source ≡ None) tree
+
+-- The world of a new site is one that is reached.
+abbrev pub NewWorldIsReached : Type 0
+NewWorldIsReached =
+    (digest : List ℕ) → length digest ≡ DIGEST_BYTES → IsReached (new_world digest)
+
+-- A step of the tree part that is accepted leads from a part that is reached to another that is,
+-- whoever calls; it opens no desk, and none ends.
+abbrev pub StepByKeepsReached : Type 0
+StepByKeepsReached =
+    (before after : TreePart) (told : Effect) (desk : Option ContentValue) (now caller : ℕ)
+    (command : Command) →
+    IsReachedPart before → IsMoment now → FitsCommand command →
+    step_by before desk now caller command ≡ Ok (after, told) →
+    IsReachedPart after × (told.opened ≡ None) × (told.ended ≡ [])
+
+-- A step that is accepted keeps a world sound, whoever calls and whatever desks are open, where no
+-- page is an alias; and then none is.
+abbrev pub StepKeepsSound : Type 0
+StepKeepsSound =
+    (before after : World) (reply : Reply) (entry : Entry) →
+    IsSound before → HasNoAlias before.part.tree → IsMoment entry.moment →
+    FitsCommand entry.command → step before entry ≡ Ok (after, reply) →
+    IsSound after × HasNoAlias after.part.tree
+
+-- A step that is accepted leads from a world that is reached to one that is reached, whoever calls.
+abbrev pub StepKeepsReached : Type 0
+StepKeepsReached =
+    (before after : World) (reply : Reply) (entry : Entry) →
+    IsReached before → IsMoment entry.moment → FitsCommand entry.command →
+    step before entry ≡ Ok (after, reply) → IsReached after
+
+-- what a command does that opens no desk and ends none
+abbrev pub quiet_effect : Deed → TreePart × Effect
+quiet_effect deed = (deed.part, record { reply = deed.reply; opened = None; ended = [] })
+
+-- Where no desk is open, a step of a command that is built is its rules and its effect alone.
+abbrev pub StepWithoutDesks : Type 0
+StepWithoutDesks =
+    (part : TreePart) (desk : Option ContentValue) (now caller : ℕ) (command : Command) →
+    part.desk_pairs ≡ [] → is_built command ≡ true →
+    step_by part desk now caller command
+    ≡ unless_refused
+    (first_of (front_rules part caller command ∷ rules part desk now caller command ∷ []))
+    (quiet_effect (effect part desk now caller command))
+
+-- After every command that is accepted, each desk that is open is of a user who may work there.
+abbrev pub DesksStay : Type 0
+DesksStay =
+    (before after : TreePart) (told : Effect) (desk : Option ContentValue) (now caller : ℕ)
+    (command : Command) →
+    step_by before desk now caller command ≡ Ok (after, told) →
+    AllByRecursion (λ (pair : DeskPair). stays after pair ≡ true) after.desk_pairs
+
+-- A part that an accepted entry does not touch stays.
+abbrev pub UntouchedStays : Type 0
+UntouchedStays =
+    (before after : World) (reply : Reply) (entry : Entry) (number : ℕ) →
+    step before entry ≡ Ok (after, reply) → touches before entry number ≡ false →
+    part_of after number ≡ part_of before number
+
+-- The reply to an accepted entry, and the parts that it touches after it, depend on the touched
+-- parts before it alone: in another sound world with the same ones it is accepted too, with the
+-- same reply, touches the same parts, and makes the same of them.
+abbrev pub TouchedAlone : Type 0
+TouchedAlone =
+    (before other after : World) (reply : Reply) (entry : Entry) →
+    IsSound before → IsSound other →
+    ((number : ℕ) → touches before entry number ≡ true →
+    part_of other number ≡ part_of before number) →
+    step before entry ≡ Ok (after, reply) →
+    (made : World) × (step other entry ≡ Ok (made, reply))
+    × ((number : ℕ) → touches other entry number ≡ touches before entry number)
+    × ((number : ℕ) → touches before entry number ≡ true →
+    part_of made number ≡ part_of after number)
+
+-- A superuser meets every need, and is denied nothing.
+abbrev pub SuperusersMayAll : Type 0
+SuperusersMayAll =
+    (part : TreePart) (desk : Option ContentValue) (now caller need : ℕ) (command : Command) →
+    is_superuser part.users caller ≡ true →
+    (may part caller command ≡ None)
+    × (step_by part desk now caller command ≡ Err (Denied need) → ⊥)
+
+-- A user holds a permission at a page exactly as a superuser, or where one of the user's groups has
+-- been granted it at a page on the walk there.
+abbrev pub HeldByWalks : Type 0
+HeldByWalks =
+    (part : TreePart) (user page : ℕ) (permission : Permission) →
+    has part user permission page
+    ≡ (is_superuser part.users user || is_granted part user permission page)
+
+-- Among drafts no page is live, and nobody edits a page as its moderator.
+abbrev pub NeedsOfDrafts : Type 0
+NeedsOfDrafts =
+    (part : TreePart) (user page : ℕ) →
+    AreDrafts part.tree → has_page page part.tree ≡ true →
+    (any_live part.tree page ≡ false) × (edit_need part user page ≡ draft_need part user page)
 
 -- the lists beside the tree, but for the revisions, and the numbers that no creation gives out
 pub record KeepsLists (before after : TreePart) : Type 0 where
@@ -33,7 +177,6 @@ pub record KeepsLists (before after : TreePart) : Type 0 where
   pub workflows : after.workflows ≡ before.workflows
   pub members : after.members ≡ before.members
   pub grants : after.grants ≡ before.grants
-  pub desk_pairs : after.desk_pairs ≡ before.desk_pairs
   pub next_user : after.next_user ≡ before.next_user
   pub next_group : after.next_group ≡ before.next_group
   pub next_task : after.next_task ≡ before.next_task
@@ -43,15 +186,15 @@ pub record KeepsLists (before after : TreePart) : Type 0 where
 abbrev pub other_rows : {Body : Type 0} → ℕ → List (Row Body) → List (Row Body)
 other_rows id rows = filter (λ row. not (row.id == id)) rows
 
--- An accepted creation opens and ends no desk, keeps the lists and puts one revision behind the
--- others. Where no two pages have one id and the next id is free, each row that was there stands
--- where it stood and is as it was, but that its parent counts one child more.
+-- An accepted creation keeps the lists and puts one revision after the others. Where no two pages
+-- have one id and the next id is free, each row that was there stands where it stood and is as it
+-- was, but that its parent counts one child more.
 abbrev pub CreationKeepsTheRest : Type 0
 CreationKeepsTheRest =
-    (before after : TreePart) (effect : Effect Reply) (now caller parent : ℕ) (slug : List ℕ)
-    (content : ContentValue) →
-    create before now caller parent slug content ≡ Ok (after, effect) →
-    KeepsLists before after × (effect.opened ≡ None) × (effect.shut ≡ [])
+    (before after : TreePart) (told : Effect) (desk : Option ContentValue)
+    (now caller parent : ℕ) (slug : List ℕ) (content : ContentValue) →
+    step_by before desk now caller (commands.Create parent slug content) ≡ Ok (after, told) →
+    KeepsLists before after
     × (after.revisions
     ≡ before.revisions
     ++ plain_revision before.next_revision before.next_page caller (max before.time now) content
@@ -59,118 +202,3 @@ CreationKeepsTheRest =
     × (HasDistinctIds before.tree → has_page before.next_page before.tree ≡ false →
     other_rows before.next_page (rows_of after.tree) ≡ raise_count (Some parent)
     (rows_of before.tree))
-
--- The world of a new site is sound.
-abbrev pub NewPartIsSound : Type 0
-NewPartIsSound = (digest : List ℕ) → IsSound (new_part digest)
-
--- A creation with a slug, where ids are left, keeps a world sound.
-abbrev pub CreationKeepsSound : Type 0
-CreationKeepsSound =
-    (before after : TreePart) (effect : Effect Reply) (now caller parent : ℕ) (slug : List ℕ)
-    (content : ContentValue) →
-    IsSound before → HasIdsLeft before → IsSlug slug →
-    create before now caller parent slug content ≡ Ok (after, effect) → IsSound after
-
--- Another slug keeps a world sound.
-abbrev pub SlugKeepsSound : Type 0
-SlugKeepsSound =
-    (before after : TreePart) (effect : Effect Reply) (now page : ℕ) (slug : List ℕ) →
-    IsSound before → IsSlug slug → set_slug before now page slug ≡ Ok (after, effect) →
-    IsSound after
-
--- A deletion keeps a world sound.
-abbrev pub DeletionKeepsSound : Type 0
-DeletionKeepsSound =
-    (before after : TreePart) (effect : Effect Reply) (now page : ℕ) →
-    IsSound before → delete before now page ≡ Ok (after, effect) → IsSound after
-
--- A move keeps a world sound.
-abbrev pub MoveKeepsSound : Type 0
-MoveKeepsSound =
-    (before after : TreePart) (effect : Effect Reply) (now page target : ℕ)
-    (position : Position) →
-    IsSound before → move before now page target position ≡ Ok (after, effect) → IsSound after
-
--- A step that is accepted keeps a world sound, where its command fits.
-abbrev pub StepKeepsSound : Type 0
-StepKeepsSound =
-    (before after : TreePart) (effect : Effect Reply) (now caller : ℕ) (command : Command) →
-    IsSound before → FitsPart before command →
-    tree_step before now caller command ≡ Ok (after, effect) → IsSound after
-
--- The users of a new site are sound.
-abbrev pub NewPartHasUsers : Type 0
-NewPartHasUsers = (digest : List ℕ) → AreUsers (new_part digest)
-
--- whether the command is one on the tree
-abbrev pub is_on_tree : Command → Bool
-is_on_tree (commands.Create parent slug content) = true
-is_on_tree (commands.Move page target position) = true
-is_on_tree (commands.Delete page) = true
-is_on_tree (commands.SetSlug page slug) = true
-is_on_tree _ = false
-
--- room is left for the content of what a command makes
-abbrev pub FitsContents : TreePart → Command → Type 0
-FitsContents part (commands.Create parent slug content) =
-    contents_length part.revisions + length (content_form content) ≤ MAX_CONTENTS
-FitsContents part _ = Unit {0}
-
--- A superuser's commands on the tree do what they do where nobody's rights are asked, where ids and
--- room for contents are left for what they make.
-abbrev pub SuperusersMayAll : Type 0
-SuperusersMayAll =
-    (part : TreePart) (now caller : ℕ) (command : Command) →
-    is_superuser part.users caller ≡ true → FitsPart part command → FitsContents part command →
-    is_on_tree command ≡ true →
-    step_by part now caller command ≡ tree_step part now caller command
-
--- what a command has to be of itself, so that it keeps a world sound: its slug is a slug
-abbrev pub FitsCaller : Command → Type 0
-FitsCaller (commands.Create parent slug content) = IsSlug slug
-FitsCaller (commands.SetSlug page slug) = IsSlug slug
-FitsCaller _ = Unit {0}
-
--- A step of any caller that is accepted keeps a world sound, with its users, groups, memberships
--- and grants.
-abbrev pub StepByKeepsSound : Type 0
-StepByKeepsSound =
-    (before after : TreePart) (effect : Effect Reply) (now caller : ℕ) (command : Command) →
-    IsSound before → AreUsers before → FitsCaller command →
-    step_by before now caller command ≡ Ok (after, effect) → IsSound after × AreUsers after
-
--- The world of a new site is one that is reached.
-abbrev pub NewWorldIsReached : Type 0
-NewWorldIsReached = (digest : List ℕ) → IsReached (new_world digest)
-
--- A step of the tree part that is accepted leads to what is reached, and opens and ends no desk.
-abbrev pub StepByKeepsReached : Type 0
-StepByKeepsReached =
-    (before after : TreePart) (effect : Effect Reply) (now caller : ℕ) (command : Command) →
-    IsReachedPart before → FitsCaller command →
-    step_by before now caller command ≡ Ok (after, effect) →
-    IsReachedPart after × (effect.opened ≡ None) × (effect.shut ≡ [])
-
--- A step that is accepted leads to a world that is reached.
-abbrev pub StepKeepsReached : Type 0
-StepKeepsReached =
-    (before after : World) (reply : Reply) (entry : Entry) →
-    IsReached before → FitsCaller entry.command → step before entry ≡ Ok (after, reply) →
-    IsReached after
-
--- The one page of a new site is a draft.
-abbrev pub NewPartIsDraft : Type 0
-NewPartIsDraft = (digest : List ℕ) → AreDrafts (new_part digest)
-
--- A step that is accepted leaves every page a draft.
-abbrev pub StepKeepsDrafts : Type 0
-StepKeepsDrafts =
-    (before after : TreePart) (effect : Effect Reply) (now caller : ℕ) (command : Command) →
-    AreDrafts before → step_by before now caller command ≡ Ok (after, effect) → AreDrafts after
-
--- Among drafts no page is live, and nobody edits a page as its moderator.
-abbrev pub NeedsOfDrafts : Type 0
-NeedsOfDrafts =
-    (part : TreePart) (user page : ℕ) → AreDrafts part →
-    (any_live part.tree page ≡ false) × (edit_need part user page ≡ draft_need part user page)

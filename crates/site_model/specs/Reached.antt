@@ -1,23 +1,70 @@
 -- What holds of every world that the commands which are built reach from a new site's: it is sound,
 -- and what no command makes yet is not there.
-use Rattle.std.specs.Prelude.{◌≡◌, ◌≤◌, []}
+use Rattle.std.specs.Prelude.{◌≡◌, ℕ, false, ◌&&◌, ◌||◌, ◌==◌, Bool, [], Option, Some, None}
+use Rattle.std.specs.List.{AllByRecursion}
+use Rattle.page_tree.specs.Tree.{Forest}
+use Rattle.site_types.specs.declared.body.Body.{Body}
+use Rattle.site_types.specs.declared.permission.Permission.TheVariants.{Add, Change}
+use Rattle.site_types.specs.declared.revision.Revision.{Revision}
+use Rattle.tree_model.specs.Shape.{AllPages}
 use Rattle.site_model.specs.World.{World, TreePart}
-use Rattle.site_model.specs.Sound.{IsSound}
-use Rattle.site_model.specs.UserSound.{AreUsers}
-use Rattle.site_model.specs.Drafts.{AreDrafts}
-use Rattle.site_model.specs.Contents.{MAX_CONTENTS, contents_length}
+use Rattle.site_model.specs.Rights.{permission_number, has}
+use Rattle.site_model.specs.Views.{body_of}
+use Rattle.site_model.specs.Needs.{unless_met}
+use Rattle.site_model.specs.Sound.{IsSoundPart, IsSound}
+
+-- What no command makes of a page yet.
+pub record IsDraft (body : Body) : Type 0 where
+  pub no_alias : body.source ≡ None
+  pub not_live : body.live ≡ false
+  pub not_expired : body.expired ≡ false
+  pub never_published : body.first_published ≡ None
+  pub not_published : body.last_published ≡ None
+  pub no_schedule : body.scheduled ≡ None
+  pub no_lock : body.locked_by ≡ None
+  pub no_workflow : body.workflow ≡ None
+  pub no_moderation : body.moderation ≡ None
+  pub shows_latest : body.shown ≡ body.latest
+
+-- each page is like that
+abbrev pub AreDrafts : Forest Body → Type 0
+AreDrafts tree = AllPages (λ id slug body. IsDraft body) tree
+
+-- A revision has no moments to publish it or to end it yet.
+pub record IsPlain (revision : Revision) : Type 0 where
+  pub no_go_live : revision.go_live ≡ None
+  pub no_expiry : revision.expire ≡ None
+
+-- What no command makes yet is not there.
+pub record HasNoneYet (part : TreePart) : Type 0 where
+  pub drafts : AreDrafts part.tree
+  pub plain : AllByRecursion IsPlain part.revisions
+  pub no_desk : part.desk_pairs ≡ []
+  pub no_task : part.tasks ≡ []
+  pub no_workflow : part.workflows ≡ []
 
 -- The tree part of a world that is reached.
 pub record IsReachedPart (part : TreePart) : Type 0 where
-  -- its pages and their revisions, its users, groups, memberships and grants
-  pub sound : IsSound part
-  pub users : AreUsers part
-  pub contents : contents_length part.revisions ≤ MAX_CONTENTS
-  -- no page is live, an alias or moderated yet, and no desk is open
-  pub drafts : AreDrafts part
-  pub no_desks : part.desk_pairs ≡ []
+  pub sound : IsSoundPart part
+  pub none_yet : HasNoneYet part
 
 -- A world that is reached.
 pub record IsReached (world : World) : Type 0 where
-  pub part : IsReachedPart world.part
-  pub no_texts : world.texts ≡ []
+  pub sound : IsSound world
+  pub none_yet : HasNoneYet world.part
+
+-- whether the user owns the page
+abbrev pub is_owner : Forest Body → ℕ → ℕ → Bool
+is_owner tree user page = owns (body_of tree page)
+  where
+    owns : Option Body → Bool
+    owns None = false
+    owns (Some body) = body.owner == user
+
+-- the need to edit a page that is not moderated: to hold change at it, or to hold add at it and own
+-- it
+abbrev pub draft_need : TreePart → ℕ → ℕ → Option ℕ
+draft_need part user page =
+    unless_met
+    (has part user Change page || (has part user Add page && is_owner part.tree user page))
+    (permission_number Change)

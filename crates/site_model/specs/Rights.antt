@@ -1,9 +1,9 @@
 -- What a user may do at a page: the permissions that are granted, at that page or at a page above
 -- it, to a group of the user (Wagtail, page permissions).
-use Rattle.std.specs.Prelude.{ℕ, zero, suc, Bool, false, not, ◌==◌, ◌&&◌, ◌||◌, List, [], ◌∷◌, map, filter, bytes_eq, Option, Some, None, if◌then◌else◌}
+use Rattle.std.specs.Prelude.{ℕ, zero, suc, Bool, false, ◌==◌, ◌&&◌, ◌||◌, List, [], ◌∷◌, map, filter, bytes_eq, Option, Some, None, if◌then◌else◌}
 use Rattle.std.specs.List.{list_any}
-use Rattle.page_tree.specs.Tree.{Forest, bare, grown, node_of, kids_of}
-use Rattle.page_tree.specs.Walk.{walk, kid_count}
+use Rattle.page_tree.specs.Tree.{Forest}
+use Rattle.page_tree.specs.Walk.{walk}
 use Rattle.site_types.specs.declared.body.Body.{Body}
 use Rattle.site_types.specs.declared.permission.Permission.{Permission}
 use Rattle.site_types.specs.declared.permission.Permission.TheVariants.{Add, Change, Publish, BulkDelete, Lock, Unlock}
@@ -56,25 +56,47 @@ abbrev pub groups_of : List Member → ℕ → List ℕ
 groups_of members user =
     map (λ member. member.group) (filter (λ member. member.user == user) members)
 
--- whether a grant gives one of the groups the permission at the page
-abbrev pub gives : List ℕ → Permission → ℕ → Grant → Bool
-gives groups permission page grant =
-    (grant.page == page)
-    && (is_same grant.permission permission && list_any (λ group. group == grant.group) groups)
+-- whether one of the groups is this one
+abbrev pub has_group : List ℕ → ℕ → Bool
+has_group groups id = list_any (λ group. group == id) groups
 
--- Whether the user has been granted the permission: one of the user's groups has it at a page on
--- the walk from the root to the page.
-abbrev pub is_granted : TreePart → ℕ → Permission → ℕ → Bool
-is_granted part user permission page =
+-- What a user brings to every page: the number, whether a superuser, the groups, and what is
+-- granted to these.
+pub record Rights : Type 0 where
+  pub user : ℕ
+  pub super : Bool
+  pub groups : List ℕ
+  pub granted : List Grant
+
+-- the rights of a user
+abbrev pub rights_of : TreePart → ℕ → Rights
+rights_of part user =
     let groups = groups_of part.members user in
-    list_any (λ visit. list_any (gives groups permission visit.id) part.grants)
-    (walk page part.tree)
+    record {
+      user = user;
+      super = is_superuser part.users user;
+      groups = groups;
+      granted = filter (λ grant. has_group groups grant.group) part.grants;
+    }
 
--- Whether the user holds the permission at the page: a superuser holds every one everywhere, and
--- nobody else holds one that was not granted.
+-- whether a grant is of the permission at the page
+abbrev pub permits : Permission → ℕ → Grant → Bool
+permits permission page grant = (grant.page == page) && is_same grant.permission permission
+
+-- Whether a user with these rights holds the permission at a page, where these pages are on the
+-- walk from the root to it: a superuser holds every one everywhere, and nobody else holds one that
+-- was not granted.
+abbrev pub holds : Rights → Permission → List ℕ → Bool
+holds rights permission above =
+    rights.super || list_any (λ page. list_any (permits permission page) rights.granted) above
+
+-- the pages on the walk from the root to a page, that page included
+abbrev pub above_of : Forest Body → ℕ → List ℕ
+above_of tree page = map (λ visit. visit.id) (walk page tree)
+
+-- whether the user holds the permission at the page
 abbrev pub has : TreePart → ℕ → Permission → ℕ → Bool
-has part user permission page =
-    is_superuser part.users user || is_granted part user permission page
+has part user permission page = holds (rights_of part user) permission (above_of part.tree page)
 
 -- The six permissions, each with whether it is held.
 pub record Held : Type 0 where
@@ -97,50 +119,17 @@ held part user page =
       unlock = has part user Unlock page;
     }
 
--- whether what is kept of one of these pages, or of one below them, passes the test
-abbrev pub any_page : (Body → Bool) → Forest Body → Bool
-any_page test bare = false
-any_page test (grown i step slug body kids rest) =
-    test body || (any_page test kids || any_page test rest)
+-- whether a grant gives one of the groups the permission at the page
+abbrev pub gives : List ℕ → Permission → ℕ → Grant → Bool
+gives groups permission page grant =
+    (grant.page == page)
+    && (is_same grant.permission permission && list_any (λ group. group == grant.group) groups)
 
--- what is kept of the first page
-abbrev pub first_body : Forest Body → Option Body
-first_body bare = None
-first_body (grown i step slug body kids rest) = Some body
-
--- what is kept of a page
-abbrev pub body_of : Forest Body → ℕ → Option Body
-body_of tree page = first_body (node_of page tree)
-
--- whether the user owns the page
-abbrev pub is_owner : Forest Body → ℕ → ℕ → Bool
-is_owner tree user page = owns (body_of tree page)
-  where
-    owns : Option Body → Bool
-    owns None = false
-    owns (Some body) = body.owner == user
-
--- whether the user owns the page and every page below it
-abbrev pub owns_all : Forest Body → ℕ → ℕ → Bool
-owns_all tree user page = not (any_page (λ body. not (body.owner == user)) (node_of page tree))
-
--- whether a regular page is live
-abbrev pub is_public : Option Body → Bool
-is_public None = false
-is_public (Some body) = body.live
-
--- whether a page of which this is kept is live: an alias is live where its source is
-abbrev pub is_live : Forest Body → Body → Bool
-is_live tree body = shows body.source
-  where
-    shows : Option ℕ → Bool
-    shows None = body.live
-    shows (Some source) = is_public (body_of tree source)
-
--- whether the page or one below it is live
-abbrev pub any_live : Forest Body → ℕ → Bool
-any_live tree page = any_page (is_live tree) (node_of page tree)
-
--- whether there are pages below the page
-abbrev pub has_kids : Forest Body → ℕ → Bool
-has_kids tree page = not (kid_count (kids_of page tree) == 0)
+-- Whether the user has been granted the permission, as one reads it: one of the user's groups has
+-- it at a page on the walk from the root to the page. The law `held_by_walks` says that this and
+-- being a superuser are all that `has` tells.
+abbrev pub is_granted : TreePart → ℕ → Permission → ℕ → Bool
+is_granted part user permission page =
+    let groups = groups_of part.members user in
+    list_any (λ visit. list_any (gives groups permission visit.id) part.grants)
+    (walk page part.tree)

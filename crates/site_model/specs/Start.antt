@@ -32,4 +32,4 @@ new_part digest =
 
 -- the world of a new site
 abbrev pub new_world : List ℕ → World
-new_world digest = record { part = new_part digest; texts = [] }
+new_world digest = record { part = new_part digest; desks = [] }

@@ -1,28 +1,22 @@
--- Users, groups, memberships and grants: the commands on them, with their refusals in order, and
+-- Users, groups, memberships and grants: the commands on them, with their own rules in order, and
 -- their effects. A command that a rule refuses for what it names, or for what it would leave as it
--- is, has no effect: so the rule on ids comes behind those.
-use Rattle.std.specs.Prelude.{ℕ, Bool, not, nat_lt, ◌==◌, ◌&&◌, ◌+◌, List, [], ◌∷◌, ◌++◌, length, filter, Option, Result, if◌then◌else◌}
+-- is, has no effect: so the rule on ids comes after those.
+use Rattle.std.specs.Prelude.{ℕ, Bool, not, nat_lt, ◌==◌, ◌&&◌, ◌+◌, List, [], ◌∷◌, ◌++◌, length, filter, Option, if◌then◌else◌}
 use Rattle.std.specs.List.{list_any}
 use Rattle.std.specs.Option.{is_some}
 use Rattle.page_tree.specs.Rows.{comes_before}
 use Rattle.site_ids.specs.declared.ids.TheConstants.{LAST_USER_ID, LAST_GROUP_ID}
 use Rattle.site_types.specs.declared.permission.Permission.{Permission}
-use Rattle.site_types.specs.declared.refusal.NameKind.TheVariants as kinds
 use Rattle.site_types.specs.declared.refusal.Refusal.{Refusal}
-use Rattle.site_types.specs.declared.refusal.Refusal.TheVariants.{IdsFull, NothingNew, NoName}
-use Rattle.site_types.specs.declared.reply.Reply.{Reply}
+use Rattle.site_types.specs.declared.refusal.Refusal.TheVariants.{IdsFull, NothingNew}
 use Rattle.site_types.specs.declared.reply.Reply.TheVariants.{Done, Id}
 use Rattle.site_types.specs.declared.world_rows.Member.{Member}
 use Rattle.site_types.specs.declared.world_rows.Grant.{Grant}
-use Rattle.site_model.specs.World.{TreePart, Effect, time_at}
-use Rattle.site_model.specs.Rules.{refused_if, first_of, no_page}
-use Rattle.site_model.specs.Create.{unless_refused}
+use Rattle.site_model.specs.World.{TreePart, Deed, time_at}
+use Rattle.site_model.specs.Limits.{MAX_GRANTS}
+use Rattle.site_model.specs.Rules.{refused_if, first_of, no_user, no_group, ids_full}
 use Rattle.site_model.specs.Rights.{permission_number, user_of}
-use Rattle.site_model.specs.Needs.{superuser_needs, denied}
-
--- the most grants that may stand
-abbrev pub MAX_GRANTS : ℕ
-MAX_GRANTS = 4294967295
+use Rattle.site_model.specs.Create.{plain_deed}
 
 module _ {Item : Type 0} where
   -- an item in its place in a list that rises by its keys
@@ -62,28 +56,11 @@ is_grant group page permission grant =
 abbrev pub agree : Bool → Bool → Bool
 agree one other = if one then other else not other
 
--- the id is of something that is there, where this is the next id
-abbrev pub is_given : ℕ → ℕ → Bool
-is_given next id = nat_lt 0 id && nat_lt id next
-
--- the id names no user
-abbrev pub no_user : TreePart → ℕ → Option Refusal
-no_user part user = refused_if (not (is_given part.next_user user)) (NoName kinds.User)
-
--- the id names no group
-abbrev pub no_group : TreePart → ℕ → Option Refusal
-no_group part group = refused_if (not (is_given part.next_group group)) (NoName kinds.Group)
-
--- no id is left where the next one is past the last
-abbrev pub ids_full : ℕ → ℕ → Option Refusal
-ids_full last next = refused_if (nat_lt last next) IdsFull
-
--- why a user is not defined
-abbrev pub user_refusal : TreePart → ℕ → List ℕ → Option Refusal
-user_refusal part caller digest =
+-- the rules of the definition of a user
+abbrev pub user_rules : TreePart → List ℕ → Option Refusal
+user_rules part digest =
     first_of
-    (denied part caller (superuser_needs part caller)
-    ∷ refused_if (is_some (user_of digest part.users)) NothingNew
+    (refused_if (is_some (user_of digest part.users)) NothingNew
     ∷ ids_full LAST_USER_ID part.next_user
     ∷ [])
 
@@ -97,18 +74,13 @@ with_user part now superuser digest =
     }
 
 -- the definition of a user
-abbrev pub define_user : TreePart → ℕ → ℕ → Bool → List ℕ → Result (TreePart × Effect Reply) Refusal
-define_user part now caller superuser digest =
-    unless_refused (user_refusal part caller digest) (with_user part now superuser digest)
-    (Id part.next_user)
+abbrev pub define_user : TreePart → ℕ → Bool → List ℕ → Deed
+define_user part now superuser digest =
+    plain_deed (with_user part now superuser digest) (Id part.next_user)
 
--- why a group is not defined
-abbrev pub group_refusal : TreePart → ℕ → Option Refusal
-group_refusal part caller =
-    first_of
-    (denied part caller (superuser_needs part caller)
-    ∷ ids_full LAST_GROUP_ID part.next_group
-    ∷ [])
+-- the rule of the definition of a group
+abbrev pub group_rules : TreePart → Option Refusal
+group_rules part = ids_full LAST_GROUP_ID part.next_group
 
 -- the world with one group more
 abbrev pub with_group : TreePart → ℕ → TreePart
@@ -116,16 +88,14 @@ with_group part now =
     record part { time = time_at part now; next_group = part.next_group + 1 }
 
 -- the definition of a group
-abbrev pub define_group : TreePart → ℕ → ℕ → Result (TreePart × Effect Reply) Refusal
-define_group part now caller =
-    unless_refused (group_refusal part caller) (with_group part now) (Id part.next_group)
+abbrev pub define_group : TreePart → ℕ → Deed
+define_group part now = plain_deed (with_group part now) (Id part.next_group)
 
--- why a membership is not set
-abbrev pub member_refusal : TreePart → ℕ → ℕ → ℕ → Bool → Option Refusal
-member_refusal part caller user group on =
+-- the rules of a membership
+abbrev pub member_rules : TreePart → ℕ → ℕ → Bool → Option Refusal
+member_rules part user group on =
     first_of
-    (denied part caller (superuser_needs part caller)
-    ∷ refused_if (agree on (list_any (is_membership user group) part.members)) NothingNew
+    (refused_if (agree on (list_any (is_membership user group) part.members)) NothingNew
     ∷ no_user part user
     ∷ no_group part group
     ∷ [])
@@ -146,10 +116,8 @@ with_member part now user group on =
     }
 
 -- a membership that begins or ends
-abbrev pub set_member : TreePart → ℕ → ℕ → ℕ → ℕ → Bool → Result (TreePart × Effect Reply) Refusal
-set_member part now caller user group on =
-    unless_refused (member_refusal part caller user group on) (with_member part now user group on)
-    Done
+abbrev pub set_member : TreePart → ℕ → ℕ → ℕ → Bool → Deed
+set_member part now user group on = plain_deed (with_member part now user group on) Done
 
 -- the grants with this one, or without it
 abbrev pub grants_after : List Grant → ℕ → ℕ → Permission → Bool → List Grant
@@ -158,13 +126,11 @@ grants_after grants group page permission on =
     then put_in grant_key (grant_of group page permission) grants
     else filter (λ grant. not (is_grant group page permission grant)) grants
 
--- why a grant is not set
-abbrev pub grant_refusal : TreePart → ℕ → ℕ → ℕ → Permission → Bool → Option Refusal
-grant_refusal part caller group page permission on =
+-- the rules of a grant
+abbrev pub grant_rules : TreePart → ℕ → ℕ → Permission → Bool → Option Refusal
+grant_rules part group page permission on =
     first_of
-    (no_page part.tree page
-    ∷ denied part caller (superuser_needs part caller)
-    ∷ refused_if (agree on (list_any (is_grant group page permission) part.grants)) NothingNew
+    (refused_if (agree on (list_any (is_grant group page permission) part.grants)) NothingNew
     ∷ no_group part group
     ∷ refused_if
     (nat_lt MAX_GRANTS (length (grants_after part.grants group page permission on))) IdsFull
@@ -179,9 +145,6 @@ with_grant part now group page permission on =
     }
 
 -- a grant that is given or withdrawn
-abbrev pub set_grant : TreePart → ℕ → ℕ → ℕ → ℕ → Permission → Bool →
-    Result (TreePart × Effect Reply) Refusal
-set_grant part now caller group page permission on =
-    unless_refused (grant_refusal part caller group page permission on)
-    (with_grant part now group page permission on)
-    Done
+abbrev pub set_grant : TreePart → ℕ → ℕ → ℕ → Permission → Bool → Deed
+set_grant part now group page permission on =
+    plain_deed (with_grant part now group page permission on) Done

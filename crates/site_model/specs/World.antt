@@ -1,9 +1,10 @@
 -- The world that all commands speak of: a plain tree of pages, and beside it plain lists. The pages
 -- are Wagtail's.
-use Rattle.std.specs.Prelude.{ℕ, List, Option, max}
+use Rattle.std.specs.Prelude.{ℕ, Bool, List, Option, max}
 use Rattle.page_tree.specs.Tree.{Forest}
 use Rattle.site_types.specs.Content.{ContentValue}
 use Rattle.site_types.specs.declared.body.Body.{Body}
+use Rattle.site_types.specs.declared.reply.Reply.{Reply}
 use Rattle.site_types.specs.declared.revision.Revision.{Revision}
 use Rattle.site_types.specs.declared.world_rows.UserRow.{UserRow}
 use Rattle.site_types.specs.declared.world_rows.Member.{Member}
@@ -14,9 +15,10 @@ pub record DeskPair : Type 0 where
   pub page : ℕ
   pub user : ℕ
 
--- The text of an open desk: the page, and what its user has written.
-pub record DeskText : Type 0 where
+-- An open desk: the page, the user whose desk it is, and what that user has written.
+pub record Desk : Type 0 where
   pub page : ℕ
+  pub user : ℕ
   pub text : ContentValue
 
 -- All of the world but the texts of the open desks. Users, groups, tasks and workflows are numbered
@@ -39,17 +41,30 @@ pub record TreePart : Type 0 where
   pub revisions : List Revision
   pub desk_pairs : List DeskPair
 
--- The world: its tree part, and the texts of the open desks.
+-- The world: its tree part, and the open desks, which rise by page.
 pub record World : Type 0 where
   pub part : TreePart
-  pub texts : List DeskText
+  pub desks : List Desk
+
+-- What a command comes to of itself: the tree part after it, in which the open desks are still
+-- those before it, its reply, the text of the desk that it opens, and whether it shuts the caller's
+-- desk.
+pub record Deed : Type 0 where
+  pub part : TreePart
+  pub reply : Reply
+  pub opened : Option ContentValue
+  pub shut : Bool
 
 -- What an accepted entry does beside changing the tree part: its reply, the desk that it opens, and
--- the pages whose desks end.
-pub record Effect (Reply : Type 0) : Type 0 where
+-- the desks that end.
+pub record Effect : Type 0 where
   pub reply : Reply
-  pub opened : Option DeskText
-  pub shut : List ℕ
+  pub opened : Option Desk
+  pub ended : List DeskPair
+
+-- a desk without its text
+abbrev pub pair_of : Desk → DeskPair
+pair_of desk = record { page = desk.page; user = desk.user }
 
 -- the moment of an entry: the world's time never falls
 abbrev pub time_at : TreePart → ℕ → ℕ

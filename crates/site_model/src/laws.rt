@@ -1,44 +1,44 @@
 //! Laws of the world. Each is a function that does nothing: its contract is the law.
-ghost use Rattle.site_model.specs.Laws.{CreationKeepsTheRest, NewPartIsSound, CreationKeepsSound, SlugKeepsSound, DeletionKeepsSound, MoveKeepsSound, StepKeepsSound, NewPartHasUsers, SuperusersMayAll, StepByKeepsSound, NewWorldIsReached, StepByKeepsReached, StepKeepsReached, NewPartIsDraft, StepKeepsDrafts, NeedsOfDrafts};
+ghost use Rattle.site_model.specs.Laws.{NewWorldIsReached, StepByKeepsReached, StepKeepsReached, StepKeepsSound, StepWithoutDesks, DesksStay, UntouchedStays, TouchedAlone, SuperusersMayAll, HeldByWalks, NeedsOfDrafts, CreationKeepsTheRest};
 
-/// What a creation does not name stays as it was.
-pub fn creation_keeps_the_rest()
-    ensures { CreationKeepsTheRest }
+/// The world of a new site is one that is reached.
+pub fn new_world_is_reached()
+    ensures { NewWorldIsReached }
 {}
 
-/// The world of a new site is sound.
-pub fn new_part_is_sound()
-    ensures { NewPartIsSound }
+/// A step of the tree part leads to what is reached, whoever calls.
+pub fn step_by_keeps_reached()
+    ensures { StepByKeepsReached }
 {}
 
-/// A creation keeps a world sound.
-pub fn creation_keeps_sound()
-    ensures { CreationKeepsSound }
+/// A step leads to a world that is reached, whoever calls.
+pub fn step_keeps_reached()
+    ensures { StepKeepsReached }
 {}
 
-/// Another slug keeps a world sound.
-pub fn slug_keeps_sound()
-    ensures { SlugKeepsSound }
-{}
-
-/// A deletion keeps a world sound.
-pub fn deletion_keeps_sound()
-    ensures { DeletionKeepsSound }
-{}
-
-/// A move keeps a world sound.
-pub fn move_keeps_sound()
-    ensures { MoveKeepsSound }
-{}
-
-/// A step keeps a world sound.
+/// A step keeps a world sound, whoever calls and whatever desks are open.
 pub fn step_keeps_sound()
     ensures { StepKeepsSound }
 {}
 
-/// The users of a new site are sound.
-pub fn new_part_has_users()
-    ensures { NewPartHasUsers }
+/// Where no desk is open, a step is its rules and its effect alone.
+pub fn step_without_desks()
+    ensures { StepWithoutDesks }
+{}
+
+/// After every command each open desk is of a user who may work there.
+pub fn desks_stay()
+    ensures { DesksStay }
+{}
+
+/// A part that an entry does not touch stays.
+pub fn untouched_stays()
+    ensures { UntouchedStays }
+{}
+
+/// What an entry does to the parts that it touches depends on these alone.
+pub fn touched_alone()
+    ensures { TouchedAlone }
 {}
 
 /// A superuser is denied nothing.
@@ -46,19 +46,9 @@ pub fn superusers_may_all()
     ensures { SuperusersMayAll }
 {}
 
-/// A step of any caller keeps a world sound, with its users and grants.
-pub fn step_by_keeps_sound()
-    ensures { StepByKeepsSound }
-{}
-
-/// The one page of a new site is a draft.
-pub fn new_part_is_draft()
-    ensures { NewPartIsDraft }
-{}
-
-/// A step leaves every page a draft.
-pub fn step_keeps_drafts()
-    ensures { StepKeepsDrafts }
+/// A permission is held by grants on the walk.
+pub fn held_by_walks()
+    ensures { HeldByWalks }
 {}
 
 /// What needs come to among drafts.
@@ -66,17 +56,7 @@ pub fn needs_of_drafts()
     ensures { NeedsOfDrafts }
 {}
 
-/// The world of a new site is one that is reached.
-pub fn new_world_is_reached()
-    ensures { NewWorldIsReached }
-{}
-
-/// A step of the tree part leads to what is reached.
-pub fn step_by_keeps_reached()
-    ensures { StepByKeepsReached }
-{}
-
-/// A step leads to a world that is reached.
-pub fn step_keeps_reached()
-    ensures { StepKeepsReached }
+/// What a creation does not name stays as it was.
+pub fn creation_keeps_the_rest()
+    ensures { CreationKeepsTheRest }
 {}

@@ -19,7 +19,7 @@ content_of title blocks = record { title = title; blocks = blocks }
 abbrev pub text_form : List ℕ → List ℕ
 text_form text = to_be_bytes w32 (length text) ++ text
 
--- the forms of texts, one behind the other
+-- the forms of texts, one after the other
 abbrev pub texts_form : List (List ℕ) → List ℕ
 texts_form [] = []
 texts_form (text ∷ texts) = text_form text ++ texts_form texts
@@ -31,7 +31,7 @@ block_form (Paragraph text) = 2 ∷ text_form text
 block_form (Items texts) = 3 ∷ (to_be_bytes w16 (length texts) ++ texts_form texts)
 block_form (Page page) = 4 ∷ to_be_bytes w32 page
 
--- the forms of blocks, one behind the other
+-- the forms of blocks, one after the other
 abbrev pub blocks_form : List Block → List ℕ
 blocks_form [] = []
 blocks_form (block ∷ blocks) = block_form block ++ blocks_form blocks
@@ -57,6 +57,6 @@ pub record FitsLimits (content : ContentValue) : Type 0 where
   pub lists_fit : All FitsBlock content.blocks
   pub form_fits : length (content_form content) ≤ MAX_CONTENT_BYTES
 
--- what is left of some room behind a form: none exactly where the form is longer than the room
+-- what is left of some room after a form: none exactly where the form is longer than the room
 abbrev pub LeavesRoom : Option ℕ → ℕ → List ℕ → Type 0
 LeavesRoom left room form = SomeIff left (length form ≤ room) (room - length form)

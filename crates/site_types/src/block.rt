@@ -139,6 +139,7 @@ impl Blocks {
     {
         self.blocks.is_empty()
     }
+
     /// An equal list on memory of its own.
     pub fn copy(&self, alloc: Global) -> Result<Self, NoMemory>
         ensures { IfOk result (λ copy. copy ≡ self.now) }

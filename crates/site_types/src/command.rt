@@ -5,7 +5,7 @@ use site_ids::{Digest, GroupId, Ids, Moment, PageId, Slug, UserId, WorkflowId};
 /// What a caller may ask of the site: 29 commands, in the order of their tags from 1.
 #[derive(Debug, Drop)]
 pub enum Command {
-    /// Adds a regular page behind the kids of a page.
+    /// Adds a regular page after the kids of a page.
     Create {
         /// The page below which it is added.
         parent: PageId,
@@ -35,7 +35,7 @@ pub enum Command {
         /// Its new slug, of 1 to 255 bytes.
         slug: Slug,
     },
-    /// Adds an alias of a page behind the kids of a page.
+    /// Adds an alias of a page after the kids of a page.
     Alias {
         /// The page that the alias shows; an alias stands for its own source.
         source: PageId,
@@ -49,7 +49,7 @@ pub enum Command {
         /// The alias.
         page: PageId,
     },
-    /// Copies a page behind the kids of a page.
+    /// Copies a page after the kids of a page.
     Copy {
         /// The page that is copied.
         page: PageId,

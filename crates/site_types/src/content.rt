@@ -93,6 +93,7 @@ impl Content {
     {
         self.form_bytes as u64
     }
+
     /// An equal content on memory of its own.
     pub fn copy(&self, alloc: Global) -> Result<Self, NoMemory>
         ensures { IfOk result (λ copy. copy ≡ self.now) }

@@ -15,8 +15,6 @@ mod position;
 mod refusal;
 mod reply;
 mod revision;
-#[cfg(test)]
-mod tests;
 mod world_rows;
 
 pub use block::{Block, Blocks};

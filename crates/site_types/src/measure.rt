@@ -1,6 +1,6 @@
 //! How much room the byte form of a content takes.
 //!
-//! Each function is given the room in bytes that is left, and gives what remains of it behind the
+//! Each function is given the room in bytes that is left, and gives what remains of it after the
 //! form of its argument, or `None` exactly where the form does not fit.
 ghost use Rattle.std.specs.Prelude.{◌↔◌, All, IsTrue};
 ghost use Rattle.site_types.specs.Content.{text_form, texts_form, block_form, blocks_form};
@@ -26,7 +26,7 @@ fn list_fits(block: &Block) -> bool
     }
 }
 
-/// The room behind the forms of these blocks.
+/// The room after the forms of these blocks.
 pub(crate) fn room_after_blocks(room: u32, blocks: &[Block]) -> Option<u32>
     ensures { LeavesRoom result room (blocks_form blocks.now) }
 {
@@ -37,7 +37,7 @@ pub(crate) fn room_after_blocks(room: u32, blocks: &[Block]) -> Option<u32>
     Some(left)
 }
 
-/// The room behind the form of this block.
+/// The room after the form of this block.
 fn room_after_block(room: u32, block: &Block) -> Option<u32>
     ensures { LeavesRoom result room (block_form block.now) }
 {
@@ -49,7 +49,7 @@ fn room_after_block(room: u32, block: &Block) -> Option<u32>
     }
 }
 
-/// The room behind the forms of these texts.
+/// The room after the forms of these texts.
 fn room_after_texts(room: u32, texts: &[Text]) -> Option<u32>
     ensures { LeavesRoom result room (texts_form texts.now) }
 {
@@ -60,7 +60,7 @@ fn room_after_texts(room: u32, texts: &[Text]) -> Option<u32>
     Some(left)
 }
 
-/// The room behind the form of this text.
+/// The room after the form of this text.
 fn room_after_text(room: u32, text: &Text) -> Option<u32>
     ensures { LeavesRoom result room (text_form text.now) }
 {

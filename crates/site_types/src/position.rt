@@ -5,7 +5,7 @@
 pub enum Position {
     /// Below the target, before its kids.
     FirstChild,
-    /// Below the target, behind its kids.
+    /// Below the target, after its kids.
     LastChild,
     /// Before all siblings of the target.
     FirstSibling,

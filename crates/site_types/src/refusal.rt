@@ -3,6 +3,8 @@ ghost use Rattle.std.specs.Prelude.{◌≡◌};
 ghost use Rattle.site_types.specs.Refusal.{kind_number, refusal_number, refusal_name, refusal_carried};
 
 use site_ids::{PageId, TaskId, UserId};
+use std::error::Error;
+use std::fmt;
 
 /// The kinds of things that a command names by number, in the order in which they are tried.
 #[derive(Clone, Copy, Debug, PartialEq, Eq)]
@@ -157,3 +159,11 @@ impl Refusal {
         }
     }
 }
+
+impl fmt::Display for Refusal {
+    fn fmt<W: fmt::Write>(&self, f: &mut fmt::Formatter<W>) -> fmt::Result {
+        write!(f, "refused by rule {}: {}", self.number(), self.name())
+    }
+}
+
+impl Error for Refusal {}

@@ -13,10 +13,10 @@ use Rattle.page_store.proofs.AllLemmas.{All-both, All-weaker}
 use Rattle.page_store.proofs.InsertLemmas.{same_bytes}
 use Rattle.page_store.proofs.PathOrder.{begins-self, begins-BeginsWith}
 use Rattle.page_store.proofs.SeenLemmas.{found_by_own_id}
-use Rattle.path_moves.proofs.Apart.{Lacks, AreApart, has_page-lacks, lacks_after}
-use Rattle.path_moves.proofs.Lists.{All-parts, EachPair-parts}
-use Rattle.path_moves.proofs.SiteTree.{AllIds-rows, apart_tree}
-use Rattle.path_moves.proofs.SubtreeLemmas.{found_block, rows_begin}
+use Rattle.tree_rows.proofs.Apart.{Lacks, AreApart, has_page-lacks, lacks_after}
+use Rattle.tree_rows.proofs.Lists.{All-parts, EachPair-parts}
+use Rattle.tree_rows.proofs.SiteTree.{AllIds-rows, apart_tree}
+use Rattle.tree_rows.proofs.SubtreeLemmas.{found_block, rows_begin}
 use Rattle.tree_model.specs.Shape.{SlugsDiffer}
 use Rattle.tree_model.proofs.CountLemmas.{one, count, none_or_some, not_first, told_apart, apart_by_test, id_found, counts_has, none_counts, node_absent}
 

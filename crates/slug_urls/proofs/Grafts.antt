@@ -9,8 +9,8 @@ use Rattle.page_tree.specs.Walk.{kid_count}
 use Rattle.page_tree.specs.Rows.{Row, child_url, rows_below, row_with}
 use Rattle.page_tree.proofs.RowLemmas.{find-append, has_page-rows}
 use Rattle.page_store.proofs.AllLemmas.{All-append}
-use Rattle.path_moves.proofs.Apart.{kids_of-lacks}
-use Rattle.path_moves.proofs.Lists.{All-parts}
+use Rattle.tree_rows.proofs.Apart.{kids_of-lacks}
+use Rattle.tree_rows.proofs.Lists.{All-parts}
 use Rattle.tree_model.proofs.CountLemmas.{one, count, none_or_some, counts_has, none_has, or_bare}
 use Rattle.tree_model.proofs.PlaceLemmas.{has_kid, IsAmong, graft_absent}
 use Rattle.slug_urls.proofs.Counts.{lacks_from_count}

@@ -1,7 +1,7 @@
 -- A page that a graft puts in has found its place among its new siblings.
 use Rattle.std.proofs.Common.{◌≡◌, ◌+◌, ◌≤◌, inl, inr, ℕ, Bool, true, false, cond, ◌||◌, nat_eq, refl, ap, ◌∙◌, arith}
 use Rattle.page_tree.specs.Tree.{Forest, bare, grown, Place, First, Before, End, has_page, graft, kids_of, or_else, placed, put, put_before, raised}
-use Rattle.path_moves.proofs.Apart.{kids_of-lacks}
+use Rattle.tree_rows.proofs.Apart.{kids_of-lacks}
 use Rattle.tree_model.proofs.CountLemmas.{one, count, none_or_some, not_first, none_has, or_bare}
 use Rattle.tree_model.proofs.PlaceLemmas.{has_kid, IsAmong, graft_absent}
 use Rattle.slug_urls.proofs.Counts.{lacks_from_count}

@@ -1,5 +1,6 @@
 pub mod TreeUrls
 pub mod UpLemmas
+pub mod Reaching
 pub mod Descents
 pub mod Listing
 pub mod Prefixes

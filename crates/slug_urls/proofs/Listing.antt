@@ -12,8 +12,8 @@ use Rattle.page_store.specs.PageRows.{IsRange}
 use Rattle.page_store.specs.Pages.{Page, ArePages}
 use Rattle.page_store.proofs.RangeLemmas.{All-at}
 use Rattle.page_store.proofs.SeenLemmas.{found_by_own_id}
-use Rattle.path_moves.proofs.Lists.{slice_get-drop}
-use Rattle.path_moves.proofs.SubtreeLemmas.{range_rows}
+use Rattle.tree_rows.proofs.Lists.{slice_get-drop}
+use Rattle.tree_rows.proofs.SubtreeLemmas.{range_rows}
 use Rattle.slug_urls.specs.Plans.{is_one_long}
 use Rattle.slug_urls.specs.Flat.{moved_from, urls_of_row, row_urls, if_fits, if_all_fit}
 

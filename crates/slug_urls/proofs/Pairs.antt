@@ -9,7 +9,7 @@ use Rattle.page_tree.specs.Walk.{SLASH}
 use Rattle.page_tree.specs.Rows.{Row, child_url, rows_below}
 use Rattle.page_store.proofs.AllLemmas.{All-append}
 use Rattle.page_store.proofs.InsertLemmas.{same_bytes, bytes_eq-self}
-use Rattle.path_moves.proofs.Lists.{All-parts, filter_all}
+use Rattle.tree_rows.proofs.Lists.{All-parts, filter_all}
 use Rattle.tree_model.specs.Changes.{url_in, changed_urls}
 
 -- the same bytes behind two texts do not change whether they are equal

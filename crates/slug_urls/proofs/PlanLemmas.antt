@@ -13,8 +13,8 @@ use Rattle.page_store.specs.Pages.{Page, ArePages}
 use Rattle.page_store.specs.Search.{begins}
 use Rattle.page_store.proofs.AllLemmas.{All-weaker, All-map}
 use Rattle.page_store.proofs.SeenLemmas.{found_by_own_id}
-use Rattle.path_moves.proofs.Lists.{All-parts}
-use Rattle.path_moves.proofs.SubtreeLemmas.{found_block, block_rows}
+use Rattle.tree_rows.proofs.Lists.{All-parts}
+use Rattle.tree_rows.proofs.SubtreeLemmas.{found_block, block_rows}
 use Rattle.tree_model.specs.Changes.{url_in, changed_urls}
 use Rattle.tree_model.specs.Renames.{renamed}
 use Rattle.tree_model.proofs.CountLemmas.{same_id}

@@ -7,7 +7,7 @@ use Rattle.page_tree.specs.Tree.{Forest, bare, grown, node_of, or_else}
 use Rattle.page_tree.specs.Walk.{kid_count}
 use Rattle.page_tree.specs.Rows.{Row, child_url, rows_below, row_with}
 use Rattle.page_tree.proofs.RowLemmas.{find-append}
-use Rattle.path_moves.proofs.Lists.{All-parts}
+use Rattle.tree_rows.proofs.Lists.{All-parts}
 use Rattle.tree_model.specs.Changes.{url_in}
 use Rattle.tree_model.specs.Renames.{renamed}
 use Rattle.tree_model.proofs.CountLemmas.{one, count, none_or_some, not_first, node_absent, or_bare}

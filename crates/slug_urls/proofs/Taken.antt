@@ -6,10 +6,10 @@ use Rattle.page_tree.specs.Tree.{Forest, bare, grown, kid_with_slug, kids_of, no
 use Rattle.page_tree.specs.Rows.{Row, child_url, is_parent, kid_named, rows_below, rows_of, row_with}
 use Rattle.page_tree.proofs.RowLemmas.{find-append, kid_named-rows}
 use Rattle.site_types.specs.declared.body.Body.{Body}
-use Rattle.page_store.specs.Pages.{ArePages}
+use Rattle.page_store.specs.Pages.{Page, ArePages}
 use Rattle.page_store.specs.Search.{begins}
 use Rattle.page_store.proofs.InsertLemmas.{same_bytes}
-use Rattle.path_moves.proofs.Apart.{without-lacks, kids_of-lacks}
+use Rattle.tree_rows.proofs.Apart.{without-lacks, kids_of-lacks}
 use Rattle.tree_model.specs.Shape.{SlugsDiffer}
 use Rattle.tree_model.proofs.CountLemmas.{one, count, none_or_some, not_first, apart_by_test, id_found, node_absent, or_bare}
 use Rattle.slug_urls.specs.Flat.{other_kid, taken_by}
@@ -215,3 +215,15 @@ taken_is tree page parent slug are there outside =
     (SlugsDiffer-kids_of parent tree (slugs_differ tree are)) (omega (arith, few, once))
     ∙ ap (other_kid page) (sym (kid_in_rows parent slug None [] [] tree (λ no. cc)
     (stands_once tree are parent))))
+
+-- the same, of a kid that is looked up
+pub taken_told : (pages : List Page) (tree : Forest Body) (page parent : ℕ) (slug : List ℕ) (found :
+    Option ℕ) → ArePages pages → pages ≡ rows_of tree → IsSome (row_with parent pages) →
+    IfSome (row_with page pages) (λ row. IfSome (row_with parent pages) (λ top. begins row.path top.path ≡
+    false)) → found ≡ taken_by page parent slug pages →
+    found ≡ kid_with_slug slug (kids_of parent (without page tree))
+taken_told pages tree page parent slug found are is there outside told =
+    told ∙ ap (taken_by page parent slug) is ∙ sym (taken_is tree page parent slug (subst ArePages is are)
+    (subst (λ (rows : List Page). IsSome (row_with parent rows)) is there) (subst (λ (rows : List Page).
+    IfSome (row_with page rows) (λ row. IfSome (row_with parent rows) (λ top. begins row.path top.path ≡
+    false))) is outside))

@@ -3,7 +3,7 @@ use Rattle.std.specs.Prelude.{ℕ, ◌==◌, nat_le, Option, Some, None, if◌th
 use Rattle.std.specs.Str.{bytes_eq}
 use Rattle.page_tree.specs.Rows.{row_with, kid_named}
 use Rattle.tree_model.specs.Limits.{MAX_URL}
-use Rattle.path_moves.specs.Subtree.{subtree_rows}
+use Rattle.tree_rows.specs.Subtree.{subtree_rows}
 use Rattle.page_store.specs.Pages.{Page}
 use Rattle.slug_urls.specs.Plans.{is_one_long}
 

@@ -9,14 +9,5 @@ mod upward;
 
 pub use downward::walk;
 pub use fault::UrlFault;
-pub use plan::plan_urls;
+pub use plan::{find_taken, plan_urls};
 pub use upward::url_of;
-
-#[cfg(test)]
-mod move_tests;
-#[cfg(test)]
-mod plain_moves;
-#[cfg(test)]
-mod sample;
-#[cfg(test)]
-mod tests;

@@ -3,7 +3,7 @@ ghost use Rattle.std.specs.Prelude.{◌≡◌, ◌+◌, ◌≤◌, false, Some, 
 ghost use Rattle.std.specs.Prelude.{[], ◌∷◌, ◌++◌, length, map, take, drop};
 ghost use Rattle.std.specs.Option.{option_map, IfSome};
 ghost use Rattle.std.specs.Str.{bytes_eq};
-ghost use Rattle.page_tree.specs.Tree.{Forest};
+ghost use Rattle.page_tree.specs.Tree.{Forest, without, kids_of, kid_with_slug};
 ghost use Rattle.page_tree.specs.Rows.{rows_of, row_with, child_url};
 ghost use Rattle.site_types.specs.declared.body.Body.{Body as PageBody};
 ghost use Rattle.page_store.specs.Pages.{Page};
@@ -50,6 +50,21 @@ pub fn plan_urls(
         Ok(None) => Err(UrlFault::TooLong),
         Err(_) => Err(UrlFault::Memory),
     }
+}
+
+/// The kid of the parent, other than the page, that has the slug: where there is one, `plan_urls`
+/// answers `Taken` with it.
+///
+/// It takes one look-up, so that a caller can tell before anything is planned.
+pub fn find_taken(rows: &Rows, page: PageId, parent: PageId, slug: &Slug) -> Option<PageId>
+    requires parent_there { IsSome (row_with parent rows.now.pages) }
+    requires outside { IfSome (row_with page rows.now.pages) (λ row. IfSome
+        (row_with parent rows.now.pages) (λ top. begins row.path top.path ≡ false)) }
+    ensures { (tree : Forest PageBody) → rows.now.pages ≡ rows_of tree → result
+        ≡ kid_with_slug slug.now (kids_of parent (without page tree)) }
+{
+    let _len = rows.len();
+    taken_kid(rows, page, parent, slug)
 }
 
 /// The kid of the parent, other than the page, that has the slug.

@@ -1,3 +1,4 @@
 pub mod StepLemmas
 pub mod PathLemmas
 pub mod OrderLemmas
+mod Examples

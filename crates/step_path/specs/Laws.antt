@@ -33,7 +33,8 @@ OrderIsTotal = IsTotalOrder path_cmp × ((a b : List ℕ) → path_cmp a b ≡ E
 
 -- a page comes before the pages below it
 abbrev pub PageBeforeDescendants : Type 0
-PageBeforeDescendants = (path : List ℕ) (step : ℕ) (rest : List ℕ) → IsBefore path (path ++ step ∷ rest)
+PageBeforeDescendants =
+    (path : List ℕ) (step : ℕ) (rest : List ℕ) → IsBefore path (path ++ step ∷ rest)
 
 -- what comes between two paths that begin alike begins so too: a page and the pages below it
 -- stand together

@@ -13,6 +13,3 @@ pub use order::{compare_texts, text_begins};
 pub use path::{MAX_DEPTH, MAX_TEXT, Path};
 pub use step::{LAST_STEP, STEP_TEXT, Step};
 pub use steps::Steps;
-
-#[cfg(test)]
-mod tests;

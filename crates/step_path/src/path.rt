@@ -94,7 +94,8 @@ impl Path {
 
     /// The path without its last step, or `None` exactly at one step.
     pub fn parent(&self) -> Option<Path>
-        ensures shorter { SomeIff result (1 < length self.now) (take (length self.now - 1) self.now) }
+        ensures shorter { SomeIff result (1 < length self.now)
+            (take (length self.now - 1) self.now) }
         ensures child { IfSome result (λ path. (last : ℕ) × (self.now ≡ path ++ last ∷ [])) }
     {
         let depth = self.steps.len();

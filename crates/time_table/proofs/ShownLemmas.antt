@@ -92,12 +92,14 @@ moment_shown shown moment low here =
     shown_at (civil_at moment) other found.0 shows ∙ ap (λ n. pos (n * 1_000_000_000)) found.1 in
     same_shown (civil_at moment) shown other shows (here ∙ sym there)
 
--- What `jiff` shows at the instant of a moment in UTC: the civil second of that moment, which exists.
+-- What `jiff` shows at the instant of a moment in UTC: the civil second of that moment, which
+-- exists.
 pub shown_at_moment : (moment seconds : ℕ) (instant : ℤ) (shown : DateTime) → seconds ≡ moment →
     IsMoment seconds → instant ≡ to_z w64 seconds *ℤ pos 1_000_000_000 →
     civil_nanos shown ≡ instant +ℤ nanos_of_seconds (pos 0) →
     Shows (civil_at moment) shown × IsCivil (civil_at moment)
 shown_at_moment moment seconds instant shown same range at there =
     let low : moment ≤ 253_370_764_799 = omega arith in
-    let here : civil_nanos shown ≡ pos (moment * 1_000_000_000) = omega (arith, ints, signed_arith) in
+    let here : civil_nanos shown ≡ pos (moment * 1_000_000_000) =
+    omega (arith, ints, signed_arith) in
     (moment_shown shown moment low here, (civil_at_right moment low).0)

@@ -28,7 +28,7 @@ part_then text place size part rest here behind =
     sym (take-append-drop size (drop place text)) ∙ ap (λ t. t ++ drop size (drop place text)) here
     ∙ ap (λ t. part ++ t) (drop-drop size place text ∙ behind)
 
--- nothing lies behind the end
+-- nothing lies after the end
 end_then : (text : List ℕ) → length text ≡ 20 → drop 20 text ≡ []
 end_then text size = drop_all 20 text (omega arith)
 

@@ -5,16 +5,11 @@ ghost use Rattle.civil_time.specs.TimeText as TimeText;
 ghost use Rattle.time_table.specs.Parts.{civil_of, AreWritten};
 
 use crate::parts::Parts;
+use civil_time::{FIRST_YEAR, LAST_YEAR};
 use jiff::Timestamp;
 use jiff::civil::DateTime;
 use jiff::tz::Offset;
 use site_types::Moment;
-
-/// The first year that has moments.
-const FIRST_YEAR: u16 = 1970;
-
-/// The last year that has moments.
-const LAST_YEAR: u16 = 9998;
 
 /// The moment of a civil second of the years 1970 to 9998, or `None` exactly where there is none.
 pub(crate) fn moment_at(parts: &Parts) -> Option<Moment>

@@ -8,6 +8,3 @@ mod parts;
 mod text;
 
 pub use text::{print_time, read_time};
-
-#[cfg(test)]
-mod tests;

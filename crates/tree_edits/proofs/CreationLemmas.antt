@@ -1,33 +1,45 @@
 -- The plan of a creation that no rule refuses.
-use Rattle.std.proofs.Common.{◌≡◌, ◌≤◌, ℕ, max, List, [], None, Ok, refl, sym, ap, subst, ◌∙◌}
+use Rattle.std.proofs.Common.{◌≡◌, ◌<◌, ◌≤◌, ℕ, true, max, List, [], ◌++◌, Option, None, Ok, refl, sym, ap, subst, ◌∙◌, arith}
+use Rattle.std.specs.List.{AllByRecursion}
+use Rattle.page_tree.specs.Tree.{has_page}
+use Rattle.page_tree.specs.Rows.{rows_of}
+use Rattle.site_ids.specs.Moment.{IsMoment}
 use Rattle.step_path.specs.Path.{path_text}
 use Rattle.site_types.specs.Content.{ContentValue}
 use Rattle.site_types.specs.declared.command.Command.TheVariants.{Create}
 use Rattle.site_types.specs.declared.reply.Reply.{Reply}
 use Rattle.site_types.specs.declared.reply.Reply.TheVariants.{Page}
+use Rattle.site_types.specs.declared.revision.Revision.{Revision}
+use Rattle.page_store.specs.PageRows.{IsNewRow}
 use Rattle.page_store.specs.Pages.{ArePages}
 use Rattle.path_moves.specs.Laws.{IsTree}
 use Rattle.site_model.specs.World as worlds
-use Rattle.site_model.specs.Callers.{step_by}
-use Rattle.site_model.specs.Create.{created, fresh_body, page_reply, plain_revision}
+use Rattle.site_model.specs.Step.{step_by}
+use Rattle.site_model.specs.Create.{created, fresh_body, page_reply}
 use Rattle.site_model.specs.Rules.{first_of}
-use Rattle.site_model.specs.Sound.{IsSound}
-use Rattle.site_model.proofs.KidLemmas.{next_free}
 use Rattle.site_model.proofs.ReachedSound.{step_by_keeps_reached}
-use Rattle.grants.specs.Plans.{HasPlan, fresh_row}
+use Rattle.flat_model.specs.declared.change.Change.{Change}
+use Rattle.flat_model.specs.Fits.{Fits}
+use Rattle.flat_model.specs.Flat.{people_of, lists_of}
+use Rattle.flat_model.specs.Made.{made as made_lists}
+use Rattle.flat_model.proofs.ListLemmas.{lists_are, none_out, quiet_people}
+use Rattle.grants.specs.Plans.{HasPlan}
 use Rattle.grants.specs.Standing.{IsSame}
 use Rattle.grants.specs.declared.part.TreePart.{TreePart}
 use Rattle.grants.specs.declared.plan.Plan.{Plan}
+use Rattle.grants.proofs.StandingLemmas.{same_ready}
+use Rattle.grants.proofs.StepLemmas.{plain, without_desks, plain_step}
 use Rattle.tree_edits.specs.declared.creation.NewPage.{NewPage}
-use Rattle.tree_edits.specs.Making.{page_rules, IsNewPage, creation_plan}
-use Rattle.tree_edits.specs.Plans.{IsAsked}
-use Rattle.tree_edits.proofs.AskedLemmas.{ready_with_room}
-use Rattle.tree_edits.proofs.CreationRows.{own_found}
+use Rattle.tree_edits.specs.Making.{page_rules, IsNewPage, fresh_row, creation_change, creation_plan}
+use Rattle.tree_edits.specs.Plans.{IsAsked, IsSoundTree}
+use Rattle.tree_edits.proofs.CommandLemmas.{create_names, create_own, create_done}
+use Rattle.tree_edits.proofs.CreationPlan.{next_free}
+use Rattle.tree_edits.proofs.CreationRows.{own_found, row_fits, rows_with}
 use Rattle.tree_edits.proofs.ReplyLemmas.{reply_is}
-use Rattle.tree_edits.proofs.RuleLemmas.{names_clear, asked_rules, outcome}
 
-module _ (kept : TreePart) (part : worlds.TreePart) (now caller parent : ℕ) (slug : List ℕ)
-    (content : ContentValue) (asked : IsAsked kept part caller (Create parent slug content))
+module _ (kept : TreePart) (part : worlds.TreePart) (desk : Option ContentValue)
+    (now caller parent : ℕ) (slug : List ℕ) (content : ContentValue)
+    (asked : IsAsked kept part caller (Create parent slug content)) (moment : IsMoment now)
     (are : ArePages kept.rows.pages) (made : NewPage)
     (clear : first_of (page_rules part now caller parent slug content) ≡ None)
     (new : IsNewPage part parent slug made) where
@@ -35,25 +47,30 @@ module _ (kept : TreePart) (part : worlds.TreePart) (now caller parent : ℕ) (s
   abbrev after : worlds.TreePart
   after = created part now caller parent slug content
 
-  -- its effect
-  abbrev effect : worlds.Effect Reply
-  effect = record { reply = page_reply part.next_page after.tree; opened = None; shut = [] }
+  -- its reply
+  abbrev reply : Reply
+  reply = page_reply part.next_page after.tree
 
   -- the step leads there
-  step_is : step_by part now caller (Create parent slug content) ≡ Ok (after, effect)
+  step_is : step_by part desk now caller (Create parent slug content)
+      ≡ Ok (without_desks after, plain reply)
   step_is =
-      asked_rules part now caller (Create parent slug content) refl
-      (names_clear part.tree (Create parent slug content) refl asked.named) asked.allowed
-      ∙ ap (outcome part now caller (Create parent slug content)) clear
+      plain_step part desk now caller (Create parent slug content) after reply asked.front refl
+      (create_own part desk now caller parent slug content ∙ clear)
+      (create_done part desk now caller parent slug content) asked.ready.reached.none_yet.no_desk
+
+  -- the parent is there
+  there : has_page parent part.tree ≡ true
+  there = create_names part caller parent slug content asked.front
 
   -- the world before it is sound, and so is that after it
-  abbrev sound : IsSound part
-  sound = asked.ready.reached.sound
+  abbrev sound : IsSoundTree part
+  sound = asked.ready.reached.sound.pages
 
-  sound_after : IsSound after
+  sound_after : IsSoundTree after
   sound_after =
-      (step_by_keeps_reached part after effect now caller (Create parent slug content)
-      asked.ready.reached asked.fits step_is).0.sound
+      (step_by_keeps_reached part (without_desks after) (plain reply) desk now caller
+      (Create parent slug content) asked.ready.reached moment asked.fits step_is).0.sound.pages
 
   -- the tree has rising steps and distinct ids
   is_tree : IsTree part.tree
@@ -67,42 +84,85 @@ module _ (kept : TreePart) (part : worlds.TreePart) (now caller parent : ℕ) (s
       ∙ reply_is after.tree part.next_page _ sound_after.whole sound_after.distinct
       (own_found part.tree (subst ArePages asked.ready.stands.pages are) is_tree sound.whole parent
       part.next_page slug made.place.path made.place.url (fresh_body caller part.next_revision)
-      asked.named (next_free part sound) new.place.free new.place.path new.place.url
+      there (next_free part sound) new.place.free new.place.path new.place.url
       sound_after.rising sound_after.steps sound_after.depth)
+
+  -- what it changes, as the world has it
+  abbrev change : Change
+  change =
+      creation_change part.next_page part.next_revision made.place slug content caller
+      (worlds.time_at part now)
+
+  -- the plan's change is that one
+  change_is : (time : ℕ) → time ≡ worlds.time_at part now →
+      creation_change made.page made.revision made.place slug content caller time ≡ change
+  change_is time time_is =
+      ap (λ n. creation_change n made.revision made.place slug content caller time) new.page
+      ∙ (ap (λ n. creation_change part.next_page n made.place slug content caller time)
+      new.revision
+      ∙ ap (creation_change part.next_page part.next_revision made.place slug content caller)
+      time_is)
+
+  -- the rows are those of a store
+  are_rows : ArePages (rows_of part.tree)
+  are_rows = subst ArePages asked.ready.stands.pages are
+
+  -- the row of the page may be put in
+  row_new : IsNewRow (rows_of part.tree)
+      (fresh_row caller part.next_page part.next_revision made.place.path slug)
+  row_new =
+      row_fits part.tree are_rows is_tree sound.whole parent part.next_page slug made.place.path
+      made.place.url (fresh_body caller part.next_revision) there (next_free part sound)
+      new.place.free new.place.path new.place.url sound_after.rising sound_after.steps
+      sound_after.depth
+
+  -- the lists of the world can take the change
+  change_fits : Fits (lists_of part) change
+  change_fits = record {
+    tree = (row_new, tt);
+    bodies = tt;
+    gone = tt;
+    revisions = (
+      subst (AllByRecursion (λ (older : Revision). older.id < part.next_revision))
+          (sym (none_out (λ (revision : Revision). revision.page) part.revisions))
+          asked.ready.reached.sound.revisions.revision_ids,
+      tt,
+    );
+    people = tt;
+  }
+
+  -- it leads to those of the world after it
+  change_leads : made_lists change (lists_of part) ≡ lists_of (without_desks after)
+  change_leads =
+      lists_are (made_lists change (lists_of part)) (lists_of (without_desks after))
+      (rows_with part.tree are_rows is_tree sound.whole parent part.next_page slug made.place.path
+      made.place.url (fresh_body caller part.next_revision) there (next_free part sound)
+      new.place.free new.place.path new.place.url sound_after.rising sound_after.steps
+      sound_after.depth)
+      (ap (λ list. list ++ change.revisions)
+      (none_out (λ (revision : Revision). revision.page) part.revisions))
+      (quiet_people (people_of part)) refl refl asked.ready.reached.none_yet.no_desk refl refl refl
 
   -- its plan can be committed where room was made
   plan_is : (room : TreePart) (time : ℕ) → IsSame kept room → 1 ≤ room.rows.spare →
       1 ≤ room.shelf.spare → time ≡ worlds.time_at part now →
-      HasPlan room part now caller (Create parent slug content)
+      HasPlan room part desk now caller (Create parent slug content)
       (creation_plan made slug content caller time)
   plan_is room time same rows shelf time_is = record {
-    after = after;
-    effect = effect;
+    after = without_desks after;
+    effect = plain reply;
     can = record {
-      ready = ready_with_room kept room part same asked.ready;
+      ready = same_ready kept room part same asked.ready;
       right = record {
-        fits = asked.fits;
         step = step_is;
         reply = reply_told;
         opened = refl;
         shut = refl;
-        time = time_is;
-        change = record {
-          parent = parent;
-          slug = slug;
-          content = content;
-          command_is = refl;
-          path = made.place.path;
-          appended = new.place.path;
-          row_is = ap (λ n. fresh_row caller n made.revision made.place.path slug) new.page
-              ∙ ap (λ n. fresh_row caller part.next_page n made.place.path slug) new.revision;
-          url_is = new.place.url;
-          revision_is = ap (λ n. plain_revision n made.page caller time content) new.revision
-              ∙ (ap (λ n. plain_revision part.next_revision n caller time content) new.page
-              ∙ ap (λ t. plain_revision part.next_revision part.next_page caller t content) time_is);
-        };
+        change_fits = subst (Fits (lists_of part)) (sym (change_is time time_is)) change_fits;
+        leads = ap (λ (c : Change). made_lists c (lists_of part)) (change_is time time_is)
+            ∙ change_leads;
       };
-      room = (rows, shelf);
+      room = record { rows = rows; revisions = shelf; people = omega arith };
     };
   }
 
@@ -110,8 +170,8 @@ module _ (kept : TreePart) (part : worlds.TreePart) (now caller parent : ℕ) (s
   pub creation_planned : (room : TreePart) (time : ℕ) (plan : Plan) → IsSame kept room →
       1 ≤ room.rows.spare → 1 ≤ room.shelf.spare → time ≡ max kept.time now →
       plan ≡ creation_plan made slug content caller time →
-      HasPlan room part now caller (Create parent slug content) plan
+      HasPlan room part desk now caller (Create parent slug content) plan
   creation_planned room time plan same rows shelf time_is is =
-      subst (λ (p : Plan). HasPlan room part now caller (Create parent slug content) p) (sym is)
+      subst (λ (p : Plan). HasPlan room part desk now caller (Create parent slug content) p) (sym is)
       (plan_is room time same rows shelf
       (time_is ∙ ap (λ t. max t now) asked.ready.stands.time))

@@ -27,17 +27,18 @@ use Rattle.slug_urls.proofs.LawLemmas.{creation_is, long_is_new}
 use Rattle.slug_urls.proofs.Taken.{taken_is}
 use Rattle.site_model.specs.World.{TreePart}
 use Rattle.site_model.specs.Rules.{refused_if, first_of}
-use Rattle.site_model.specs.Sound.{IsSound}
-use Rattle.site_model.proofs.KidLemmas.{next_free}
+use Rattle.tree_edits.specs.Plans.{PlansBy, IsSoundTree}
+use Rattle.site_model.proofs.ClearLemmas.{not_given}
 use Rattle.site_model.proofs.MoveSound.{no_zero}
+use Rattle.site_model.proofs.RowLemmas.{rows_too_deep}
 use Rattle.grants.specs.declared.fault.Fault.{Fault}
 use Rattle.grants.specs.declared.fault.Fault.TheVariants as faults
 use Rattle.tree_edits.specs.Faults.{both_of}
 use Rattle.tree_edits.specs.Making.{IsPlace, with_page, place_refusal, planned_url}
-use Rattle.tree_edits.specs.Plans.{PlansBy}
 use Rattle.tree_edits.proofs.HeightLemmas.{deep_is}
 use Rattle.tree_edits.proofs.LookUpLemmas.{row_there}
 use Rattle.tree_edits.proofs.MoveRefusals.{none_long}
+use Rattle.tree_edits.proofs.StepRows.{graft_past}
 
 -- a page that is not there leaves nothing where it is cut out
 pub without_absent : (id : ℕ) (f : Forest Body) → count id f ≡ 0 → without id f ≡ f
@@ -47,6 +48,12 @@ without_absent id (grown i step slug body kids rest) none =
     let below = without_absent id kids (omega (arith, none)) in
     let after = without_absent id rest (omega (arith, none)) in
     rw (differs, below, after) refl
+
+-- the next id is no page's
+pub next_free : (part : TreePart) → IsSoundTree part → has_page part.next_page part.tree ≡ false
+next_free part sound =
+    none_has part.next_page part.tree
+    (not_given part.next_page part.next_page part.tree (omega arith) sound.page_ids)
 
 -- a path and a URL of a new page
 abbrev Told : Type 0
@@ -113,7 +120,7 @@ or_false : (t : Bool) → (t || false) ≡ t
 or_false true = refl
 or_false false = refl
 
-module _ (part : TreePart) (sound : IsSound part) (parent : ℕ) (slug : List ℕ) (body : Body)
+module _ (part : TreePart) (sound : IsSoundTree part) (parent : ℕ) (slug : List ℕ) (body : Body)
     (there : has_page parent part.tree ≡ true) where
   -- the tree, the page that is made, the tree with it, and its URL
   abbrev tree : Forest Body
@@ -155,8 +162,11 @@ module _ (part : TreePart) (sound : IsSound part) (parent : ℕ) (slug : List �
   refusal_is =
       let some = has_counts parent tree there in
       let most = once tree sound.distinct parent in
-      let deep = deep_is parent page 1 slug body tree (omega (arith, some, most)) sound.depth in
-      rw (deep, long_is) refl
+      let stands : count parent tree ≡ 1 = omega (arith, some, most) in
+      let deep = rows_too_deep after ∙ deep_is parent page 1 slug body tree stands sound.depth in
+      let full = graft_past parent page 1 slug body bare End tree stands tt sound.rising sound.steps
+      tt in
+      rw (full, deep, long_is) refl
 
   -- what is right of a path and a URL
   abbrev Right : Told → Type 0
@@ -202,7 +212,7 @@ module _ (part : TreePart) (sound : IsSound part) (parent : ℕ) (slug : List �
 
 -- the kid that the rows name is the tree's: no page has the id 0
 pub kid_seen : (part : TreePart) (pages : List (Row Body)) (parent : ℕ) (slug : List ℕ) →
-    IsSound part → ArePages pages → pages ≡ rows_of part.tree → has_page parent part.tree ≡ true →
+    IsSoundTree part → ArePages pages → pages ≡ rows_of part.tree → has_page parent part.tree ≡ true →
     kid_named parent slug pages ≡ kid_with_slug slug (kids_of parent part.tree)
 kid_seen part pages parent slug sound are same there =
     let tree = part.tree in
@@ -236,7 +246,7 @@ kid_seen part pages parent slug sound are same there =
 
 -- what is planned of a URL by the rows is planned of it by the tree
 pub url_seen : (part : TreePart) (pages : List (Row Body)) (parent : ℕ) (slug : List ℕ)
-    (u : Result (List ℕ) UrlFault) → IsSound part → ArePages pages → pages ≡ rows_of part.tree →
+    (u : Result (List ℕ) UrlFault) → IsSoundTree part → ArePages pages → pages ≡ rows_of part.tree →
     has_page parent part.tree ≡ true →
     UnlessMemory (planned_url (kid_named parent slug pages) (child_url (url_in parent pages) slug)) u →
     UnlessMemory (planned_url (kid_with_slug slug (kids_of parent part.tree))

@@ -14,7 +14,6 @@ use Rattle.step_path.specs.Path.{IsPath, path_text, steps_of}
 use Rattle.step_path.specs.declared.step.TheConstants.{LAST_STEP}
 use Rattle.step_path.specs.declared.path.TheConstants.{MAX_DEPTH}
 use Rattle.step_path.proofs.PathLemmas.{IsPathText-path_text, steps_of-path_text}
-use Rattle.site_types.specs.RootBody.{root_body}
 use Rattle.site_types.specs.declared.body.Body.{Body}
 use Rattle.site_types.specs.declared.page_row.PageRow.{PageRow}
 use Rattle.tree_model.specs.Shape.{IsWhole, AreWithin}
@@ -28,11 +27,11 @@ use Rattle.page_store.proofs.InsertLemmas.{same_bytes, bytes_eq-self, find-raise
 use Rattle.page_store.proofs.PathOrder.{comes_before-self, comes_before-not_back}
 use Rattle.page_store.proofs.SeenLemmas.{found_by_own_id, All-find}
 use Rattle.path_moves.specs.Append.{appended_path}
-use Rattle.path_moves.specs.Cuts.{end_of}
+use Rattle.tree_rows.specs.Cuts.{end_of}
 use Rattle.path_moves.specs.Laws.{IsTree}
 use Rattle.path_moves.proofs.ApplySlugs.{found_id}
 use Rattle.path_moves.proofs.LawLemmas.{graft_is}
-use Rattle.path_moves.proofs.Lists.{EachPair-parts, All-parts}
+use Rattle.tree_rows.proofs.Lists.{EachPair-parts, All-parts}
 use Rattle.path_moves.proofs.TreePages.{rows_in_order, rows_paths}
 use Rattle.slug_urls.specs.Flat.{other_kid}
 use Rattle.slug_urls.proofs.Taken.{taken_is}
@@ -161,9 +160,9 @@ module _ (tree : Forest Body) (are : ArePages (rows_of tree)) (is_tree : IsTree 
       let walked : AllByRecursion (λ (r : Page). path_of r.id tree ≡ r.path) (rows_of tree) =
       subst (λ t. HasDistinctIds t → AllByRecursion (λ (r : Page). path_of r.id t ≡ r.path)
       (rows_of t)) (sym whole.is)
-      (λ distinct. all_first (λ (r : Page). path_of r.id (grown 1 1 [] root_body whole.kids bare) ≡ r.path)
-      (λ (r : Page). Rattle.page_tree.specs.Walk.url_of r.id (grown 1 1 [] root_body whole.kids bare) ≡ r.url)
-      (rows_of (grown 1 1 [] root_body whole.kids bare)) (rows_of-walk root_body whole.kids distinct))
+      (λ distinct. all_first (λ (r : Page). path_of r.id (grown 1 1 [] whole.own whole.kids bare) ≡ r.path)
+      (λ (r : Page). Rattle.page_tree.specs.Walk.url_of r.id (grown 1 1 [] whole.own whole.kids bare) ≡ r.url)
+      (rows_of (grown 1 1 [] whole.own whole.kids bare)) (rows_of-walk whole.own whole.kids distinct))
       is_tree.distinct in
       subst (λ id. path_of id tree ≡ top.path)
       (found_id parent (rows_of tree) top above_row.1)

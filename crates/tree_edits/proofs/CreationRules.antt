@@ -1,17 +1,16 @@
 -- The rules on a page that is to be made: those on its place, then the ids, then its content.
 use Rattle.std.proofs.Common.{◌≡◌, ◌+◌, ◌<◌, ◌≤◌, ℕ, List, [], ◌∷◌, ◌++◌, length, Option, Some, None, Err, Fits, w64, refl, ap, ◌∙◌, arith}
-use Rattle.page_tree.specs.Tree.{End}
+use Rattle.page_tree.specs.Rows.{rows_of}
 use Rattle.site_ids.specs.declared.ids.TheConstants.{LAST_PAGE_ID, LAST_REVISION_ID}
 use Rattle.site_types.specs.Content.{ContentValue, FitsLimits, content_form}
 use Rattle.site_types.specs.declared.refusal.Refusal.{Refusal}
-use Rattle.site_types.specs.declared.refusal.Refusal.TheVariants.{ContentFull}
+use Rattle.site_types.specs.declared.refusal.Refusal.TheVariants.{ContentFull, IdsFull}
 use Rattle.site_types.specs.declared.revision.Revision.{Revision}
 use Rattle.revision_shelf.specs.Shelf.{total_weight}
 use Rattle.site_model.specs.World as worlds
-use Rattle.site_model.specs.Contents.{MAX_CONTENTS, contents_length, content_full}
+use Rattle.site_model.specs.Limits.{MAX_CONTENTS, contents_length}
 use Rattle.site_model.specs.Create.{created, fresh_body, plain_revision}
-use Rattle.site_model.specs.Rules.{first_of, slug_taken, steps_full, too_deep, url_too_long}
-use Rattle.site_model.specs.Users.{ids_full}
+use Rattle.site_model.specs.Rules.{first_of, slug_taken, steps_full, too_deep, url_too_long, ids_full, content_full}
 use Rattle.site_model.proofs.ContentLemmas.{contents_length-append, within_room, past_room}
 use Rattle.grants.specs.declared.fault.Fault.{Fault}
 use Rattle.grants.specs.declared.fault.Fault.TheVariants.{Refused, Memory}
@@ -52,9 +51,9 @@ module _ (part : worlds.TreePart) (now caller parent : ℕ) (slug : List ℕ) (c
     abbrev place_rules : List (Option Refusal)
     place_rules =
         slug_taken part.tree parent slug
-        ∷ steps_full part.tree parent End
-        ∷ too_deep after.tree
-        ∷ url_too_long after.tree
+        ∷ steps_full (rows_of after.tree)
+        ∷ too_deep (rows_of after.tree)
+        ∷ url_too_long (rows_of after.tree)
         ∷ []
 
     -- the rules on the ids
@@ -90,6 +89,13 @@ module _ (part : worlds.TreePart) (now caller parent : ℕ) (slug : List ℕ) (c
     none_alone : (rule : Option Refusal) → rule ≡ None → first_of (rule ∷ []) ≡ None
     none_alone None is = refl
     none_alone (Some other) is = absurd (cc)
+
+    -- ids that are given out
+    pub ids_refuse : place_told ≡ None → ids_refusal part ≡ Some IdsFull →
+        first_of (page_rules part now caller parent slug content) ≡ Some IdsFull
+    ids_refuse clear full =
+        front_passed place_rules (id_rules ++ content_rule ∷ []) clear
+        ∙ front_refused id_rules (content_rule ∷ []) IdsFull full
 
     -- content for which there is no room
     pub content_refuses : place_told ≡ None → ids_refusal part ≡ None → (weight sum : ℕ) →

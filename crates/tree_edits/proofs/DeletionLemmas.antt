@@ -1,10 +1,11 @@
 -- The plan of a deletion that no rule refuses.
-use Rattle.std.proofs.Common.{◌≡◌, ◌<◌, ◌≤◌, ◌+◌, ℕ, Bool, true, false, ◌||◌, List, [], ◌∷◌, length, max, filter, None, nat_eq, refl, sym, ap, ◌∙◌, arith}
+use Rattle.std.proofs.Common.{◌≡◌, ◌<◌, ◌≤◌, ◌+◌, ℕ, Bool, true, false, ◌||◌, List, [], ◌∷◌, length, max, Option, None, nat_eq, refl, sym, ap, ◌∙◌, arith}
 use Rattle.std.specs.List.{AllByRecursion, list_any}
 use Rattle.std.proofs.lemmas.Bool.Decides.{nat_tests}
 use Rattle.std.proofs.lemmas.Map.Steps.{length-le_from_distinct_below}
 use Rattle.page_tree.specs.Tree.{Forest, bare, grown, has_page, node_of, ids_of}
 use Rattle.site_ids.specs.declared.ids.TheConstants.{LAST_PAGE_ID}
+use Rattle.site_types.specs.Content.{ContentValue}
 use Rattle.site_types.specs.declared.body.Body.{Body}
 use Rattle.site_types.specs.declared.command.Command.TheVariants.{Delete}
 use Rattle.site_types.specs.declared.reply.Reply.TheVariants.{Removed}
@@ -12,14 +13,15 @@ use Rattle.tree_model.specs.Shape.{AllPages}
 use Rattle.tree_model.proofs.CountLemmas.{once, distinct_ids, cut_counts}
 use Rattle.tree_model.proofs.PageLemmas.{AllPages-node_of}
 use Rattle.tree_model.proofs.SiblingLemmas.{all_append}
-use Rattle.site_model.specs.World.{TreePart, DeskPair}
-use Rattle.site_model.specs.Delete.{without_page, pages_of, desks_gone, count_gone}
-use Rattle.site_model.specs.Sound.{IsSound, IsGiven}
-use Rattle.grants.specs.Plans.{HasPlan}
+use Rattle.site_model.specs.World.{TreePart}
+use Rattle.site_model.specs.Delete.{without_page, count_gone}
+use Rattle.site_model.specs.Sound.{IsGiven}
+use Rattle.grants.specs.Plans.{HasPlan, quiet_plan}
 use Rattle.grants.specs.declared.part.TreePart.{TreePart as KeptPart}
-use Rattle.grants.specs.declared.plan.Change.TheVariants as changes
-use Rattle.tree_edits.specs.Plans.{IsAsked}
-use Rattle.tree_edits.proofs.RuleLemmas.{names_clear, asked_rules}
+use Rattle.grants.proofs.StepLemmas.{plain, without_desks, plain_step}
+use Rattle.tree_edits.specs.Plans.{IsAsked, IsSoundTree}
+use Rattle.tree_edits.proofs.DeletionChange.{deletion_change, deletion_fits, deletion_leads}
+use Rattle.tree_edits.proofs.CommandLemmas.{delete_names, delete_own, delete_done}
 
 -- each id of some pages is below what each page's id is below
 ids_below : (n : ℕ) (f : Forest Body) → AllPages (λ id slug body. IsGiven n id) f →
@@ -46,7 +48,7 @@ member_below n (x ∷ xs) all q is =
     choice false e later any = later any
 
 -- pages have ids of their own below the next one, so that they are as many at most
-pub count_fits : (part : TreePart) (page : ℕ) → IsSound part →
+pub count_fits : (part : TreePart) (page : ℕ) → IsSoundTree part →
     length (ids_of (node_of page part.tree)) ≤ LAST_PAGE_ID + 1
 count_fits part page sound =
     let tree = part.tree in
@@ -62,40 +64,36 @@ count_fits part page sound =
     omega (arith, fits, next)
 
 -- the plan of a deletion can be committed: no desk ends, as none is open
-pub deletion_planned : (kept : KeptPart) (part : TreePart) (now caller page removed : ℕ)
-    (gone shut : List ℕ) (time : ℕ) → IsAsked kept part caller (Delete page) →
-    gone ≡ ids_of (node_of page part.tree) → removed ≡ length gone → shut ≡ [] →
-    time ≡ max kept.time now →
-    HasPlan kept part now caller (Delete page) (record {
-      reply = Removed removed;
-      opened = None;
-      shut = shut;
-      time = time;
-      change = changes.Delete page gone;
-    })
-deletion_planned kept part now caller page removed gone shut time asked gone_is removed_is none
-    time_is = record {
-      after = without_page part now page;
-      effect = record {
-        reply = Removed (count_gone part page);
-        opened = None;
-        shut = desks_gone part page;
-      };
+pub deletion_planned : (kept : KeptPart) (part : TreePart) (desk : Option ContentValue)
+    (now caller page removed : ℕ) (gone : List ℕ) (time : ℕ) →
+    IsAsked kept part caller (Delete page) → gone ≡ ids_of (node_of page part.tree) →
+    removed ≡ length gone → time ≡ max kept.time now →
+    HasPlan kept part desk now caller (Delete page) (quiet_plan (Removed removed)
+    (deletion_change page gone time kept.next_page kept.next_revision))
+deletion_planned kept part desk now caller page removed gone time asked gone_is removed_is
+    time_is =
+    let named = delete_names part caller page asked.front in
+    let after = without_page part now page in
+    let reply = Removed (count_gone part page) in
+    record {
+      after = without_desks after;
+      effect = plain reply;
       can = record {
         ready = asked.ready;
         right = record {
-          fits = asked.fits;
-          step = asked_rules part now caller (Delete page) refl
-              (names_clear part.tree (Delete page) refl asked.named) asked.allowed;
+          step = plain_step part desk now caller (Delete page) after reply asked.front refl
+              (delete_own part desk now caller page) (delete_done part desk now caller page)
+              asked.ready.reached.none_yet.no_desk;
           reply = ap Removed (removed_is ∙ ap length gone_is);
           opened = refl;
-          shut = none
-              ∙ sym (ap (λ (desks : List DeskPair).
-              filter (λ id. has_page id (node_of page part.tree)) (pages_of desks))
-              asked.ready.reached.no_desks);
-          time = time_is ∙ ap (λ t. max t now) asked.ready.stands.time;
-          change = (refl, gone_is);
+          shut = refl;
+          change_fits = deletion_fits part page gone time kept.next_page kept.next_revision
+              asked.ready.reached.sound.pages named.0 named.1 gone_is;
+          leads = deletion_leads part now page gone time kept.next_page kept.next_revision
+              asked.ready.reached.sound.pages named.0 gone_is asked.ready.stands.no_desks
+              (time_is ∙ ap (λ t. max t now) asked.ready.stands.time)
+              asked.ready.stands.next_page asked.ready.stands.next_revision;
         };
-        room = tt;
+        room = record { rows = omega arith; revisions = omega arith; people = omega arith };
       };
     }

@@ -1,8 +1,11 @@
 -- The plan of a move that no rule refuses.
-use Rattle.std.proofs.Common.{◌≡◌, ◌≤◌, ℕ, Bool, true, false, cond, max, nat_eq, List, [], ◌∷◌, Option, Some, None, is_some, Ok, unwrap_or, refl, sym, ap, ◌∙◌, arith}
+use Rattle.std.proofs.Common.{◌≡◌, ◌≤◌, ℕ, Bool, true, false, cond, max, nat_eq, List, [], ◌∷◌, Option, Some, None, is_some, Ok, unwrap_or, refl, sym, ap, subst, ◌∙◌, arith}
 use Rattle.std.specs.Map.{lookup}
+use Rattle.page_tree.specs.Tree.{kids_of, kid_with_slug, without}
 use Rattle.page_tree.specs.Rows.{Row, rows_of, row_with}
 use Rattle.page_tree.proofs.RowLemmas.{has_page-rows}
+use Rattle.site_ids.specs.Moment.{IsMoment}
+use Rattle.site_types.specs.Content.{ContentValue}
 use Rattle.site_types.specs.declared.body.Body.{Body}
 use Rattle.site_types.specs.declared.command.Command.TheVariants.{Move}
 use Rattle.site_types.specs.declared.position.Position.{Position}
@@ -10,28 +13,35 @@ use Rattle.site_types.specs.declared.refusal.Refusal.{Refusal}
 use Rattle.site_types.specs.declared.refusal.Refusal.TheVariants.{IntoItself, NothingNew}
 use Rattle.site_types.specs.declared.reply.Reply.{Reply}
 use Rattle.tree_model.specs.Changes.{path_in, changed_paths}
-use Rattle.tree_model.specs.Places.{stays_put, moved_to, leads_into_itself}
+use Rattle.tree_model.specs.Places.{stays_put, parent_at, slug_in, moved_to, leads_into_itself}
 use Rattle.tree_model.proofs.CountLemmas.{has_counts, counts_has}
+use Rattle.page_store.specs.Pages.{ArePages}
 use Rattle.page_store.specs.declared.plan.MovePlan.{MovePlan}
 use Rattle.path_moves.proofs.ApplyAfter.{planned_clear}
 use Rattle.site_model.specs.World as worlds
-use Rattle.site_model.specs.Callers.{step_by}
+use Rattle.site_model.specs.Step.{step_by}
 use Rattle.site_model.specs.Create.{page_reply}
-use Rattle.site_model.specs.Moves.{into_itself, effect_refusal}
-use Rattle.site_model.specs.Rules.{first_of}
-use Rattle.site_model.specs.Sound.{IsSound}
-use Rattle.site_model.proofs.ClearLemmas.{first_clear, test_clear}
+use Rattle.site_model.specs.Moves.{into_itself, effect_refusal, with_move}
+use Rattle.site_model.specs.Rules.{first_of, slug_taken}
+use Rattle.site_model.proofs.ClearLemmas.{first_clear, test_clear, slug_clear}
 use Rattle.site_model.proofs.ReachedSound.{step_by_keeps_reached}
-use Rattle.grants.specs.Plans.{HasPlan}
+use Rattle.flat_model.specs.Flat.{people_of, lists_of}
+use Rattle.flat_model.specs.Made.{made}
+use Rattle.flat_model.specs.Single.{tree_change}
+use Rattle.flat_model.specs.declared.change.Change.{Change}
+use Rattle.flat_model.specs.declared.change.TreeChange.TheVariants as trees
+use Rattle.flat_model.proofs.ListLemmas.{lists_are, quiet_revisions, quiet_people}
+use Rattle.grants.specs.Plans.{HasPlan, quiet_plan}
 use Rattle.grants.specs.Standing.{IsSame}
 use Rattle.grants.specs.declared.part.TreePart.{TreePart}
-use Rattle.grants.specs.declared.plan.Change.TheVariants as changes
+use Rattle.grants.proofs.StandingLemmas.{same_ready}
+use Rattle.grants.proofs.StepLemmas.{plain, without_desks, plain_step}
 use Rattle.tree_edits.specs.Moving.{there_rules, IsNamed, IsMovePlan, told_reply}
-use Rattle.tree_edits.specs.Plans.{IsAsked}
-use Rattle.tree_edits.proofs.AskedLemmas.{ready_with_room}
+use Rattle.tree_edits.specs.Plans.{IsAsked, IsSoundTree}
+use Rattle.tree_edits.proofs.CommandLemmas.{move_names, move_own, move_done}
+use Rattle.tree_edits.proofs.MoveChange.{IsMove, move_fits, move_leads}
 use Rattle.tree_edits.proofs.MovePlans.{Found, found_of, movable_is}
 use Rattle.tree_edits.proofs.ReplyLemmas.{own_ids_of, told_path_is, told_reply_is}
-use Rattle.tree_edits.proofs.RuleLemmas.{names_clear, asked_rules, outcome}
 
 -- what refuses where a test holds is not told where it does not refuse
 test_out : (test : Bool) (refusal : Refusal) (other : Option Refusal) →
@@ -45,38 +55,37 @@ pub move_named : (kept : TreePart) (part : worlds.TreePart) (caller page target 
     IsNamed kept.rows.pages part page target position
 move_named kept part caller page target position asked = record {
   stands = asked.ready.stands.pages;
-  sound = asked.ready.reached.sound;
-  named = asked.named;
+  sound = asked.ready.reached.sound.pages;
+  named = move_names part caller page target position asked.front;
 }
 
-module _ (kept : TreePart) (part : worlds.TreePart) (now caller page target : ℕ)
-    (position : Position) (asked : IsAsked kept part caller (Move page target position))
+module _ (kept : TreePart) (part : worlds.TreePart) (desk : Option ContentValue)
+    (now caller page target : ℕ) (position : Position)
+    (asked : IsAsked kept part caller (Move page target position)) (moment : IsMoment now)
     (plan : MovePlan) (urls : List (ℕ × List ℕ))
     (clear : first_of (there_rules part.tree page target position) ≡ None)
     (planned : IsMovePlan part.tree page target position (plan, urls)) where
   -- the world after the move
   abbrev after : worlds.TreePart
-  after = record part {
-    time = worlds.time_at part now;
-    tree = moved_to part.tree page target position;
-  }
+  after = with_move part now page target position
 
-  -- its effect
-  abbrev effect : worlds.Effect Reply
-  effect = record { reply = page_reply page after.tree; opened = None; shut = [] }
+  -- its reply
+  abbrev reply : Reply
+  reply = page_reply page after.tree
 
   -- the step leads there
-  step_is : step_by part now caller (Move page target position) ≡ Ok (after, effect)
+  step_is : step_by part desk now caller (Move page target position)
+      ≡ Ok (without_desks after, plain reply)
   step_is =
-      asked_rules part now caller (Move page target position) refl
-      (names_clear part.tree (Move page target position) refl asked.named) asked.allowed
-      ∙ ap (outcome part now caller (Move page target position)) clear
+      plain_step part desk now caller (Move page target position) after reply asked.front refl
+      (move_own part desk now caller page target position ∙ clear)
+      (move_done part desk now caller page target position) asked.ready.reached.none_yet.no_desk
 
-  -- the world after it is sound
-  sound_after : IsSound after
+  -- the tree after it is sound
+  sound_after : IsSoundTree after
   sound_after =
-      (step_by_keeps_reached part after effect now caller (Move page target position)
-      asked.ready.reached asked.fits step_is).0.sound
+      (step_by_keeps_reached part (without_desks after) (plain reply) desk now caller
+      (Move page target position) asked.ready.reached moment asked.fits step_is).0.sound.pages
 
   -- what the rules say of where the page goes
   into_clear : (into_itself part.tree page target position ≡ None)
@@ -97,7 +106,7 @@ module _ (kept : TreePart) (part : worlds.TreePart) (now caller page target : �
   -- what is found
   found : Found part.tree page target position
   found =
-      found_of part page target position asked.ready.reached.sound
+      found_of part page target position asked.ready.reached.sound.pages
       (movable_is kept.rows.pages part page target position
       (move_named kept part caller page target position asked) moves) outside
 
@@ -134,39 +143,71 @@ module _ (kept : TreePart) (part : worlds.TreePart) (now caller page target : �
       (own_ids_of after.tree sound_after.distinct) row.1)
       planned.urls
 
-  -- the plan can be committed where room was made
-  pub move_planned : (room : TreePart) (reply : Reply) (shut : List ℕ) (time : ℕ) →
-      IsSame kept room → 2 ≤ room.rows.spare →
-      reply ≡ told_reply kept.rows.pages page plan.rows urls → shut ≡ [] →
-      time ≡ max kept.time now →
-      HasPlan room part now caller (Move page target position) (record {
-        reply = reply;
-        opened = None;
-        shut = shut;
-        time = time;
-        change = changes.Move plan urls;
-      })
-  move_planned room reply shut time same spare reply_is none time_is = record {
-    after = after;
-    effect = effect;
-    can = record {
-      ready = ready_with_room kept room part same asked.ready;
-      right = record {
-        fits = asked.fits;
-        step = step_is;
-        reply = reply_is ∙ reply_told;
-        opened = refl;
-        shut = none;
-        time = time_is ∙ ap (λ t. max t now) asked.ready.stands.time;
-        change = record {
-          page = page;
-          target = target;
-          position = position;
-          command_is = refl;
-          planned = planned.plan;
-          urls_are = planned.urls;
-        };
-      };
-      room = spare;
-    };
-  }
+  -- no other kid of the new parent has the page's slug
+  free : kid_with_slug (slug_in part.tree page)
+      (kids_of (parent_at part.tree target position) (without page part.tree)) ≡ None
+  free =
+      let effect_clear : effect_refusal part.tree page target position ≡ None =
+      ap (λ t. cond t (Some NothingNew) (effect_refusal part.tree page target position)) (sym moves)
+      ∙ (first_clear (cond (stays_put page target position) (Some NothingNew)
+      (effect_refusal part.tree page target position)) [] into_clear.1).0 in
+      slug_clear (kid_with_slug (slug_in part.tree page)
+      (kids_of (parent_at part.tree target position) (without page part.tree)))
+      (first_clear (slug_taken (without page part.tree) (parent_at part.tree target position)
+      (slug_in part.tree page)) _ effect_clear).0
+
+  module _ (are : ArePages kept.rows.pages) where
+    -- what is known of the move
+    is_move : IsMove part.tree page target position plan urls
+    is_move = record {
+      pages = subst ArePages asked.ready.stands.pages are;
+      movable = movable_is kept.rows.pages part page target position
+          (move_named kept part caller page target position asked) moves;
+      outside = outside;
+      free = free;
+      counts = found.counts;
+      distinct = sound_after.distinct;
+      planned = planned.plan;
+      urls_are = planned.urls;
+    }
+
+    -- what it changes
+    abbrev change : ℕ → ℕ → ℕ → Change
+    change time next_page next_revision =
+        tree_change (trees.Move plan urls) time next_page next_revision
+
+    -- the plan can be committed where room was made
+    pub move_planned : (room : TreePart) (told : Reply) (time : ℕ) →
+        IsSame kept room → 2 ≤ room.rows.spare →
+        told ≡ told_reply kept.rows.pages page plan.rows urls → time ≡ max room.time now →
+        HasPlan room part desk now caller (Move page target position)
+        (quiet_plan told (change time room.next_page room.next_revision))
+    move_planned room told time same spare reply_is time_is =
+        let ready = same_ready kept room part same asked.ready in
+        record {
+          after = without_desks after;
+          effect = plain reply;
+          can = record {
+            ready = ready;
+            right = record {
+              step = step_is;
+              reply = reply_is ∙ reply_told;
+              opened = refl;
+              shut = refl;
+              change_fits = record {
+                tree = move_fits part.tree page target position plan urls is_move;
+                bodies = tt;
+                gone = tt;
+                revisions = tt;
+                people = tt;
+              };
+              leads = lists_are
+                  (made (change time room.next_page room.next_revision) (lists_of part))
+                  (lists_of (without_desks after)) (move_leads part.tree page target position plan urls is_move)
+                  (quiet_revisions part.revisions) (quiet_people (people_of part)) refl refl
+                  asked.ready.reached.none_yet.no_desk (time_is ∙ ap (λ t. max t now) ready.stands.time) ready.stands.next_page
+                  ready.stands.next_revision;
+            };
+            room = record { rows = spare; revisions = omega arith; people = omega arith };
+          };
+        }

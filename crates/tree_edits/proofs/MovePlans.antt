@@ -13,6 +13,9 @@ use Rattle.tree_model.specs.Limits.{is_full, is_too_deep, has_long_url}
 use Rattle.tree_model.specs.Places.{is_beside, stays_put, parent_at, place_at, slug_in, moved_to, leads_into_itself}
 use Rattle.tree_model.proofs.CountLemmas.{count, once, has_counts, counts_has, cut_counts, node_found, told_apart}
 use Rattle.tree_model.proofs.MoveLemmas.{Lands, lands}
+use Rattle.tree_model.proofs.SiblingLemmas.{AreRising-without, AreWithin-without, AreWithin-node_of}
+use Rattle.tree_model.specs.Shape.{AreWithin}
+use Rattle.step_path.specs.declared.step.TheConstants.{LAST_STEP}
 use Rattle.tree_model.proofs.PlaceLemmas.{IsAmong, AtParent-kids, graft_counts}
 use Rattle.page_store.specs.declared.plan.MovePlan.{MovePlan}
 use Rattle.page_store.specs.Pages.{ArePages}
@@ -30,14 +33,15 @@ use Rattle.site_types.specs.declared.refusal.Refusal.TheVariants.{IntoItself, No
 use Rattle.site_model.specs.World.{TreePart}
 use Rattle.site_model.specs.Moves.{effect_refusal}
 use Rattle.site_model.specs.Rules.{first_of}
-use Rattle.site_model.specs.Sound.{IsSound}
+use Rattle.tree_edits.specs.Plans.{PlansBy, IsSoundTree}
 use Rattle.site_model.proofs.MoveSound.{no_zero}
+use Rattle.site_model.proofs.RowLemmas.{rows_too_deep}
 use Rattle.grants.specs.declared.fault.Fault.{Fault}
 use Rattle.grants.specs.declared.fault.Fault.TheVariants.{Refused, Memory}
 use Rattle.tree_edits.specs.Faults.{both_of}
-use Rattle.tree_edits.specs.Plans.{PlansBy}
 use Rattle.tree_edits.specs.Moving.{there_rules, early_fault, IsNamed, IsAway, IsMovePlan}
 use Rattle.tree_edits.proofs.LookUpLemmas.{row_there}
+use Rattle.tree_edits.proofs.StepRows.{any_past, graft_past}
 use Rattle.tree_edits.proofs.MoveRefusals.{refused_stays, refused_late, refused_itself, planned_both, none_long}
 
 -- What a move that is asked for finds in the tree.
@@ -65,7 +69,7 @@ moved_counts tree page parent place each here landed j =
     subst (λ f. count j (graft parent place f left) ≡ count j tree) (sym node.is) (sum ∙ sym cut)
 
 -- what is found where the page can be moved
-pub found_of : (part : TreePart) (page target : ℕ) (position : Position) → IsSound part →
+pub found_of : (part : TreePart) (page target : ℕ) (position : Position) → IsSoundTree part →
     IsMovable part.tree page target position →
     leads_into_itself part.tree page target position ≡ false →
     Found part.tree page target position
@@ -190,7 +194,19 @@ module _ (part : TreePart) (page target : ℕ) (position : Position)
       let long : has_long_url after ≡ plans.is_one_long news =
       long_is_new tree after (none_long (rows_of tree) asked.named.sound.urls)
       ∙ ap plans.is_one_long change in
-      rw (long, asked.outside) (planned_both
+      let node = node_found page tree (has_counts page tree found.here) in
+      let left = without page tree in
+      let place = place_at left target position in
+      let inside = subst (λ f. AreWithin LAST_STEP f) node.is
+      (AreWithin-node_of LAST_STEP page tree asked.named.sound.steps) in
+      let full : any_past (rows_of after) ≡ is_full left parent place =
+      subst (λ f. any_past (rows_of (graft parent place f left)) ≡ is_full left parent place)
+      (sym node.is)
+      (graft_past parent page node.step node.slug node.body node.kids place left
+      found.landed.one_parent found.landed.among
+      (AreRising-without page 0 tree asked.named.sound.rising)
+      (AreWithin-without LAST_STEP page tree asked.named.sound.steps) inside.1) in
+      rw (full, rows_too_deep after, long, asked.outside) (planned_both
       (kid_with_slug (slug_in tree page) (kids_of parent (without page tree)))
       (is_full (without page tree) parent (place_at (without page tree) target position))
       (is_too_deep after) (moves.plan_of tree page target position) news

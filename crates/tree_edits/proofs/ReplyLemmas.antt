@@ -7,14 +7,13 @@ use Rattle.page_tree.specs.Walk.{path_of, url_of}
 use Rattle.page_tree.specs.Rows.{rows_of, row_with}
 use Rattle.page_tree.proofs.RowWalkLemmas.{rows_of-walk}
 use Rattle.step_path.specs.Path.{path_text}
-use Rattle.site_types.specs.RootBody.{root_body}
 use Rattle.site_types.specs.declared.body.Body.{Body}
 use Rattle.site_types.specs.declared.reply.Reply.TheVariants as replies
 use Rattle.tree_model.specs.Changes.{path_in, url_in, changed_paths, changed_urls}
 use Rattle.tree_model.specs.Shape.{IsWhole}
 use Rattle.page_store.specs.Pages.{Page, EachPair, HasOtherId}
 use Rattle.page_store.proofs.SeenLemmas.{All-find}
-use Rattle.path_moves.proofs.Apart.{AreApart-distinct}
+use Rattle.tree_rows.proofs.Apart.{AreApart-distinct}
 use Rattle.path_moves.proofs.ApplyChanges.{changes-told}
 use Rattle.path_moves.proofs.ApplySlugs.{found_id}
 use Rattle.path_moves.proofs.TreePages.{rows_own_ids}
@@ -57,7 +56,7 @@ reply_is tree page row whole distinct found =
     let walked : AllByRecursion (λ (r : Page). (path_of r.id tree ≡ r.path) × (url_of r.id tree
     ≡ r.url)) (rows_of tree) =
     subst (λ t. HasDistinctIds t → AllByRecursion (λ (r : Page). (path_of r.id t ≡ r.path)
-    × (url_of r.id t ≡ r.url)) (rows_of t)) (sym whole.is) (rows_of-walk root_body whole.kids)
+    × (url_of r.id t ≡ r.url)) (rows_of t)) (sym whole.is) (rows_of-walk whole.own whole.kids)
     distinct in
     let own = subst (λ id. (path_of id tree ≡ row.path) × (url_of id tree ≡ row.url))
     (found_id page (rows_of tree) row found)

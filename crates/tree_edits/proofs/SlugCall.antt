@@ -14,9 +14,9 @@ use Rattle.page_store.specs.Pages.{Page, ArePages}
 use Rattle.page_store.specs.Search.{begins}
 use Rattle.page_store.proofs.SlugLemmas.{parent_there}
 use Rattle.site_model.specs.World.{TreePart}
-use Rattle.site_model.specs.Sound.{IsSound}
+use Rattle.tree_edits.specs.Plans.{IsSoundTree}
 use Rattle.site_types.specs.declared.refusal.Refusal.TheVariants.{NothingNew}
-use Rattle.tree_edits.specs.Naming.{slug_refusal}
+use Rattle.site_model.specs.Slugs.{slug_rules}
 use Rattle.tree_edits.proofs.ParentLemmas.{IsUnder, parent_row}
 use Rattle.tree_edits.proofs.SlugPlans.{IsSought}
 
@@ -48,7 +48,7 @@ module _ (pages : List Page) (page : ℕ) (row : PageRow) (of : IsSeen pages pag
 
   -- a page is refused the slug that it has
   pub same_slug : (tree : Forest Body) (slug : List ℕ) → pages ≡ rows_of tree →
-      bytes_eq row.slug slug ≡ true → slug_refusal tree page slug ≡ Some NothingNew
+      bytes_eq row.slug slug ≡ true → slug_rules tree page slug ≡ Some NothingNew
   same_slug tree slug is same = rw (slug_seen tree is, same) refl
 
   -- a page without a parent is the root
@@ -87,7 +87,7 @@ module _ (pages : List Page) (page : ℕ) (row : PageRow) (of : IsSeen pages pag
     parent_outside = rw (of.found, above_row.found) above_row.outside
 
   -- what is known of a page that has another slug than this one
-  pub sought : (part : TreePart) → IsSound part → pages ≡ rows_of part.tree → (slug : List ℕ)
+  pub sought : (part : TreePart) → IsSoundTree part → pages ≡ rows_of part.tree → (slug : List ℕ)
       (parent : ℕ) → of.top.parent ≡ Some parent → bytes_eq row.slug slug ≡ false →
       IsSought part page slug of.top parent
   sought part sound is slug parent under new = record {

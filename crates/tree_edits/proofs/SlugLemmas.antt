@@ -1,40 +1,55 @@
 -- The plan of another slug that no rule refuses.
-use Rattle.std.proofs.Common.{◌≡◌, ◌≤◌, ℕ, true, max, List, [], ◌∷◌, Option, Some, None, is_some, IsSome, Ok, Err, unwrap_or, refl, sym, ap, subst, ◌∙◌}
+use Rattle.std.proofs.Common.{◌≡◌, ◌≤◌, ℕ, Bool, true, false, cond, max, List, [], ◌∷◌, Option, Some, None, is_some, IsSome, Ok, Err, bytes_eq, unwrap_or, refl, sym, ap, subst, ◌∙◌, arith}
 use Rattle.std.specs.Option.{option_map}
+use Rattle.page_tree.specs.Tree.{kids_of, kid_with_slug, without}
 use Rattle.page_tree.specs.Rows.{Row, rows_of, row_with}
+use Rattle.site_ids.specs.Moment.{IsMoment}
+use Rattle.site_types.specs.Content.{ContentValue}
 use Rattle.site_types.specs.declared.body.Body.{Body}
 use Rattle.site_types.specs.declared.command.Command.TheVariants.{SetSlug}
 use Rattle.site_types.specs.declared.refusal.Refusal.{Refusal}
+use Rattle.site_types.specs.declared.refusal.Refusal.TheVariants.{NothingNew}
 use Rattle.site_types.specs.declared.reply.Reply.{Reply}
-use Rattle.tree_model.specs.Changes.{changed_urls}
+use Rattle.tree_model.specs.Places.{parent_in, slug_in}
 use Rattle.tree_model.specs.Renames.{renamed}
+use Rattle.page_store.specs.Pages.{ArePages}
+use Rattle.page_store.specs.Relabelling.{AreListed}
 use Rattle.site_model.specs.World as worlds
-use Rattle.site_model.specs.Callers.{step_by}
+use Rattle.site_model.specs.Step.{step_by}
 use Rattle.site_model.specs.Create.{page_reply}
-use Rattle.site_model.specs.Rules.{first_of}
-use Rattle.site_model.specs.Sound.{IsSound}
+use Rattle.site_model.specs.Rules.{first_of, slug_taken}
+use Rattle.site_model.specs.Slugs.{effect_refusal, slug_rules, with_slug as renamed_part}
+use Rattle.site_model.proofs.ClearLemmas.{first_clear, slug_clear}
 use Rattle.site_model.proofs.ReachedSound.{step_by_keeps_reached}
-use Rattle.grants.specs.Plans.{Prepares, HasPlan}
-use Rattle.grants.specs.declared.fault.Fault.{Fault}
+use Rattle.flat_model.specs.Fits.{Fits}
+use Rattle.flat_model.specs.Flat.{people_of, lists_of}
+use Rattle.flat_model.specs.Made.{made, with_name}
+use Rattle.flat_model.specs.Single.{tree_change}
+use Rattle.flat_model.specs.declared.change.Change.{Change}
+use Rattle.flat_model.specs.declared.change.TreeChange.TheVariants as trees
+use Rattle.flat_model.proofs.ListLemmas.{lists_are, quiet_revisions, quiet_people}
+use Rattle.grants.specs.Plans.{HasPlan, quiet_plan}
 use Rattle.grants.specs.Standing.{IsSame}
 use Rattle.grants.specs.declared.part.TreePart.{TreePart}
-use Rattle.grants.specs.declared.plan.Change.TheVariants as changes
+use Rattle.grants.proofs.StandingLemmas.{same_ready}
+use Rattle.grants.proofs.StepLemmas.{plain, without_desks, plain_step}
 use Rattle.tree_edits.specs.Moving.{told_reply}
-use Rattle.tree_edits.specs.Naming.{slug_refusal, IsBelow, AreNewUrls}
-use Rattle.tree_edits.specs.Plans.{PlansBy, IsAsked}
-use Rattle.tree_edits.proofs.AskedLemmas.{ready_with_room, later_refuse}
+use Rattle.tree_edits.specs.Naming.{IsBelow, AreNewUrls}
+use Rattle.tree_edits.specs.Plans.{IsAsked, IsSoundTree, IsBelowRoot}
+use Rattle.tree_edits.proofs.CommandLemmas.{slug_names, slug_own, slug_done}
+use Rattle.tree_edits.proofs.ListedUrls.{slug_listed}
 use Rattle.tree_edits.proofs.LookUpLemmas.{row_there}
 use Rattle.tree_edits.proofs.ReplyLemmas.{told_reply_is}
-use Rattle.tree_edits.proofs.RuleLemmas.{names_clear, asked_rules, outcome}
-use Rattle.tree_edits.proofs.SlugTree.{later_row}
+use Rattle.tree_edits.proofs.SlugChange.{may_have}
+use Rattle.tree_edits.proofs.SlugTree.{slug_rows, later_row}
 
 -- another slug that is asked for is planned in the rows that stand for the tree
 pub slug_named : (kept : TreePart) (part : worlds.TreePart) (caller page : ℕ) (slug : List ℕ) →
     IsAsked kept part caller (SetSlug page slug) → IsBelow kept.rows.pages part page slug
 slug_named kept part caller page slug asked = record {
   stands = asked.ready.stands.pages;
-  sound = asked.ready.reached.sound;
-  named = asked.named;
+  sound = asked.ready.reached.sound.pages;
+  named = slug_names part caller page slug asked.front;
 }
 
 -- its page has a row
@@ -42,42 +57,42 @@ pub row_named : (pages : List (Row Body)) (part : worlds.TreePart) (page : ℕ) 
     IsBelow pages part page slug → IsSome (row_with page pages)
 row_named pages part page slug asked = row_there page part.tree pages asked.stands ∙ asked.named.0
 
--- a rule alone
-pub alone : (rule : Option Refusal) → first_of (rule ∷ []) ≡ rule
-alone None = refl
-alone (Some refusal) = refl
-
-module _ (kept : TreePart) (part : worlds.TreePart) (now caller page : ℕ) (slug : List ℕ)
-    (asked : IsAsked kept part caller (SetSlug page slug)) (urls : List (ℕ × List ℕ))
-    (clear : slug_refusal part.tree page slug ≡ None)
+module _ (kept : TreePart) (part : worlds.TreePart) (desk : Option ContentValue)
+    (now caller page : ℕ) (slug : List ℕ) (asked : IsAsked kept part caller (SetSlug page slug))
+    (moment : IsMoment now) (urls : List (ℕ × List ℕ))
+    (clear : slug_rules part.tree page slug ≡ None)
     (news : AreNewUrls part.tree page slug urls) where
   -- the world after it
   abbrev after : worlds.TreePart
-  after = record part { time = worlds.time_at part now; tree = renamed page slug part.tree }
+  after = renamed_part part now page slug
 
-  -- its effect
-  abbrev effect : worlds.Effect Reply
-  effect = record { reply = page_reply page after.tree; opened = None; shut = [] }
+  -- its reply
+  abbrev reply : Reply
+  reply = page_reply page after.tree
+
+  -- the page is there, and is not the root
+  named : IsBelowRoot part.tree page
+  named = slug_names part caller page slug asked.front
 
   -- the step leads there
-  step_is : step_by part now caller (SetSlug page slug) ≡ Ok (after, effect)
+  step_is : step_by part desk now caller (SetSlug page slug)
+      ≡ Ok (without_desks after, plain reply)
   step_is =
-      asked_rules part now caller (SetSlug page slug) refl
-      (names_clear part.tree (SetSlug page slug) refl asked.named) asked.allowed
-      ∙ ap (outcome part now caller (SetSlug page slug))
-      (alone (slug_refusal part.tree page slug) ∙ clear)
+      plain_step part desk now caller (SetSlug page slug) after reply asked.front refl
+      (slug_own part desk now caller page slug ∙ clear)
+      (slug_done part desk now caller page slug) asked.ready.reached.none_yet.no_desk
 
-  -- the world after it is sound
-  sound_after : IsSound after
+  -- the tree after it is sound
+  sound_after : IsSoundTree after
   sound_after =
-      (step_by_keeps_reached part after effect now caller (SetSlug page slug)
-      asked.ready.reached asked.fits step_is).0.sound
+      (step_by_keeps_reached part (without_desks after) (plain reply) desk now caller
+      (SetSlug page slug) asked.ready.reached moment asked.fits step_is).0.sound.pages
 
   -- the page's row
   own_row : (row : Row Body) × (row_with page (rows_of part.tree) ≡ Some row)
   own_row =
       some (row_with page (rows_of part.tree))
-      (row_there page part.tree (rows_of part.tree) refl ∙ asked.named.0)
+      (row_there page part.tree (rows_of part.tree) refl ∙ named.0)
     where
       some : (o : Option (Row Body)) → is_some o ≡ true →
           (row : Row Body) × (o ≡ Some row)
@@ -87,7 +102,7 @@ module _ (kept : TreePart) (part : worlds.TreePart) (now caller page : ℕ) (slu
   -- what is told is the page's reply: its path stays
   reply_told : told_reply kept.rows.pages page [] urls ≡ page_reply page after.tree
   reply_told =
-      let sound = asked.ready.reached.sound in
+      let sound = asked.ready.reached.sound.pages in
       let row = own_row in
       let later = later_row part.tree sound.distinct page slug row.0 row.1 in
       ap (λ pages. told_reply pages page [] urls) asked.ready.stands.pages
@@ -97,50 +112,83 @@ module _ (kept : TreePart) (part : worlds.TreePart) (now caller page : ℕ) (slu
       ∙ sym later.path_is)
       news
 
-  -- the plan can be committed where room was made
-  pub slug_planned : (room : TreePart) (reply : Reply) (paths : List (ℕ × List ℕ))
-      (text shut : List ℕ) (time : ℕ) → IsSame kept room → 3 ≤ room.rows.spare →
-      reply ≡ told_reply kept.rows.pages page paths urls → paths ≡ [] → text ≡ slug → shut ≡ [] →
-      time ≡ max kept.time now →
-      HasPlan room part now caller (SetSlug page slug) (record {
-        reply = reply;
-        opened = None;
-        shut = shut;
-        time = time;
-        change = changes.SetSlug page text urls;
-      })
-  slug_planned room reply paths text shut time same spare reply_is no_paths text_is none time_is =
-      record {
-        after = after;
-        effect = effect;
-        can = record {
-          ready = ready_with_room kept room part same asked.ready;
-          right = record {
-            fits = asked.fits;
-            step = step_is;
-            reply = reply_is
-                ∙ (ap (λ pairs. told_reply kept.rows.pages page pairs urls) no_paths
-                ∙ reply_told);
-            opened = refl;
-            shut = none;
-            time = time_is ∙ ap (λ t. max t now) asked.ready.stands.time;
-            change = record {
-              command_is = ap (SetSlug page) (sym text_is);
-              urls_are = news ∙ ap (λ t. changed_urls (rows_of part.tree)
-                  (rows_of (renamed page t part.tree))) (sym text_is);
-            };
-          };
-          room = spare;
-        };
-      }
+  -- no other kid of the parent has the slug
+  free : kid_with_slug slug (kids_of (parent_in part.tree page) (without page part.tree)) ≡ None
+  free =
+      let effect_clear : effect_refusal part.tree page slug ≡ None =
+      not_so (bytes_eq (slug_in part.tree page) slug) clear in
+      slug_clear (kid_with_slug slug (kids_of (parent_in part.tree page) (without page part.tree)))
+      (first_clear (slug_taken (without page part.tree) (parent_in part.tree page) slug) _
+      effect_clear).0
+    where
+      not_so : (test : Bool) →
+          cond test (Some NothingNew) (effect_refusal part.tree page slug) ≡ None →
+          effect_refusal part.tree page slug ≡ None
+      not_so true is = absurd (cc)
+      not_so false is = is
 
--- what the URLs refuse is refused
-pub slug_refuses : (kept room : TreePart) (part : worlds.TreePart) (now caller page : ℕ)
-    (slug : List ℕ) → IsAsked kept part caller (SetSlug page slug) → (fault : Fault) →
-    PlansBy (slug_refusal part.tree page slug) (AreNewUrls part.tree page slug) (Err fault) →
-    Prepares part now caller (SetSlug page slug) room (Err fault)
-slug_refuses kept room part now caller page slug asked fault told =
-    later_refuse kept room part now caller (SetSlug page slug) refl asked
-    (AreNewUrls part.tree page slug) fault
-    (subst (λ refused. PlansBy refused (AreNewUrls part.tree page slug) (Err fault))
-    (sym (alone (slug_refusal part.tree page slug))) told)
+  module _ (are : ArePages kept.rows.pages) where
+    -- what it changes
+    abbrev change : List ℕ → ℕ → ℕ → ℕ → Change
+    change text time next_page next_revision =
+        tree_change (trees.Rename page text urls) time next_page next_revision
+
+    -- the lists of the world can take it
+    change_fits : (time next_page next_revision : ℕ) →
+        Fits (lists_of part) (change slug time next_page next_revision)
+    change_fits time next_page next_revision = record {
+      tree = (
+        may_have part.tree page slug (subst ArePages asked.ready.stands.pages are) named.0
+            named.1 free,
+        subst (AreListed (rows_of part.tree)) (sym news)
+            (slug_listed part.tree asked.ready.reached.sound.pages.distinct page slug),
+      );
+      bodies = tt;
+      gone = tt;
+      revisions = tt;
+      people = tt;
+    }
+
+    -- it leads to those of the world after it
+    change_leads : (time next_page next_revision : ℕ) → time ≡ worlds.time_at part now →
+        next_page ≡ part.next_page → next_revision ≡ part.next_revision →
+        made (change slug time next_page next_revision) (lists_of part) ≡ lists_of (without_desks after)
+    change_leads time next_page next_revision time_is page_is revision_is =
+        lists_are (made (change slug time next_page next_revision) (lists_of part))
+        (lists_of (without_desks after))
+        (ap (λ pairs. with_name page slug pairs (rows_of part.tree)) news
+        ∙ slug_rows part.tree asked.ready.reached.sound.pages.distinct page slug)
+        (quiet_revisions part.revisions) (quiet_people (people_of part)) refl refl
+        asked.ready.reached.none_yet.no_desk time_is page_is revision_is
+
+    -- the plan can be committed where room was made
+    pub slug_planned : (room : TreePart) (told : Reply) (paths : List (ℕ × List ℕ))
+        (text : List ℕ) (time : ℕ) → IsSame kept room → 3 ≤ room.rows.spare →
+        told ≡ told_reply kept.rows.pages page paths urls → paths ≡ [] → text ≡ slug →
+        time ≡ max room.time now →
+        HasPlan room part desk now caller (SetSlug page slug)
+        (quiet_plan told (change text time room.next_page room.next_revision))
+    slug_planned room told paths text time same spare reply_is no_paths text_is time_is =
+        let ready = same_ready kept room part same asked.ready in
+        subst (λ t. HasPlan room part desk now caller (SetSlug page slug)
+        (quiet_plan told (change t time room.next_page room.next_revision))) (sym text_is)
+        (record {
+          after = without_desks after;
+          effect = plain reply;
+          can = record {
+            ready = ready;
+            right = record {
+              step = step_is;
+              reply = reply_is
+                  ∙ (ap (λ pairs. told_reply kept.rows.pages page pairs urls) no_paths
+                  ∙ reply_told);
+              opened = refl;
+              shut = refl;
+              change_fits = change_fits time room.next_page room.next_revision;
+              leads = change_leads time room.next_page room.next_revision
+                  (time_is ∙ ap (λ t. max t now) ready.stands.time) ready.stands.next_page
+                  ready.stands.next_revision;
+            };
+            room = record { rows = spare; revisions = omega arith; people = omega arith };
+          };
+        })

@@ -16,17 +16,17 @@ use Rattle.slug_urls.specs.Plans.{new_urls, is_one_long, unless_taken, planned_u
 use Rattle.slug_urls.proofs.LawLemmas.{renaming_is, long_is_new}
 use Rattle.site_model.specs.World.{TreePart}
 use Rattle.site_model.specs.Rules.{first_of, refused_if}
-use Rattle.site_model.specs.Sound.{IsSound}
+use Rattle.tree_edits.specs.Plans.{PlansBy, IsSoundTree}
 use Rattle.grants.specs.declared.fault.Fault.{Fault}
 use Rattle.tree_edits.specs.Faults.{of_url}
-use Rattle.tree_edits.specs.Naming.{slug_refusal, AreNewUrls}
-use Rattle.tree_edits.specs.Plans.{PlansBy}
+use Rattle.site_model.specs.Slugs.{slug_rules}
+use Rattle.tree_edits.specs.Naming.{AreNewUrls}
 use Rattle.tree_edits.proofs.MoveRefusals.{none_long}
 
 -- What is known of a page that may get another slug, as far as its siblings and the URLs go.
 pub record IsSought (part : TreePart) (page : ℕ) (slug : List ℕ) (row : Page) (parent : ℕ) :
     Type 0 where
-  pub sound : IsSound part
+  pub sound : IsSoundTree part
   pub found : row_with page (rows_of part.tree) ≡ Some row
   pub below : row.parent ≡ Some parent
   pub new : bytes_eq (slug_in part.tree page) slug ≡ false
@@ -71,7 +71,7 @@ module _ (part : TreePart) (page : ℕ) (slug : List ℕ) (row : Page) (parent :
       (subst (λ (o : Option ℕ). IsSome o) (sym asked.below) (search rules))))
 
   -- what is left of the rules
-  rules_are : slug_refusal tree page slug ≡ first_of
+  rules_are : slug_rules tree page slug ≡ first_of
       (option_map refusals.SlugTaken (kid_with_slug slug (kids_of (parent_in tree page) (without page
       tree)))
       ∷ refused_if (has_long_url (renamed page slug tree)) refusals.UrlTooLong ∷ [])
@@ -79,7 +79,7 @@ module _ (part : TreePart) (page : ℕ) (slug : List ℕ) (row : Page) (parent :
 
   -- what the URLs that are planned tell
   planned_told :
-      PlansBy (slug_refusal tree page slug) (AreNewUrls tree page slug)
+      PlansBy (slug_rules tree page slug) (AreNewUrls tree page slug)
       (told_urls (planned_urls tree page parent slug))
   planned_told =
       subst (λ refused. PlansBy refused (AreNewUrls tree page slug)
@@ -99,6 +99,6 @@ module _ (part : TreePart) (page : ℕ) (slug : List ℕ) (row : Page) (parent :
   -- so are those that a plan gave
   pub urls_told : (result : Result (List (ℕ × List ℕ)) UrlFault) →
       UnlessMemory (planned_urls tree page parent slug) result →
-      PlansBy (slug_refusal tree page slug) (AreNewUrls tree page slug) (told_urls result)
+      PlansBy (slug_rules tree page slug) (AreNewUrls tree page slug) (told_urls result)
   urls_told result (inl is) = rw is tt
   urls_told result (inr is) = rw is planned_told

@@ -1,11 +1,12 @@
 -- What is planned of a page that is to be made.
-use Rattle.std.specs.Prelude.{◌≡◌, ℕ, nat_le, List, [], ◌∷◌, length, Option, Some, None, Result, Ok, Err, if◌then◌else◌}
+use Rattle.std.specs.Prelude.{◌≡◌, ℕ, ◌+◌, nat_le, List, [], ◌∷◌, length, Option, Some, None, Result, Ok, Err, if◌then◌else◌}
 use Rattle.page_tree.specs.Tree.{Forest, End, bare, grown, graft, kids_of, kid_with_slug}
 use Rattle.page_tree.specs.Rows.{rows_of, child_url}
 use Rattle.step_path.specs.Path.{path_text}
 use Rattle.site_ids.specs.declared.ids.TheConstants.{LAST_PAGE_ID, LAST_REVISION_ID}
 use Rattle.site_types.specs.Content.{ContentValue}
 use Rattle.site_types.specs.declared.body.Body.{Body}
+use Rattle.site_types.specs.declared.page_row.PageRow.{PageRow}
 use Rattle.site_types.specs.declared.refusal.Refusal.{Refusal}
 use Rattle.site_types.specs.declared.refusal.Refusal.TheVariants.{IdsFull}
 use Rattle.site_types.specs.declared.reply.Reply.TheVariants.{Page}
@@ -15,12 +16,12 @@ use Rattle.path_moves.specs.Append.{appended_path}
 use Rattle.slug_urls.specs.declared.fault.UrlFault.{UrlFault}
 use Rattle.slug_urls.specs.declared.fault.UrlFault.TheVariants.{Taken, TooLong}
 use Rattle.site_model.specs.World as worlds
-use Rattle.site_model.specs.Contents.{content_full}
-use Rattle.site_model.specs.Create.{created, plain_revision}
-use Rattle.site_model.specs.Rules.{first_of, slug_taken, steps_full, too_deep, url_too_long}
-use Rattle.site_model.specs.Users.{ids_full}
-use Rattle.grants.specs.Plans.{fresh_row}
-use Rattle.grants.specs.declared.plan.Change.TheVariants.{Create}
+use Rattle.site_model.specs.Create.{created, fresh_body, plain_revision}
+use Rattle.site_model.specs.Rules.{first_of, slug_taken, steps_full, too_deep, url_too_long, ids_full, content_full}
+use Rattle.flat_model.specs.Single.{tree_change}
+use Rattle.flat_model.specs.declared.change.Change.{Change}
+use Rattle.flat_model.specs.declared.change.TreeChange.TheVariants.{Insert}
+use Rattle.grants.specs.Plans.{quiet_plan}
 use Rattle.grants.specs.declared.plan.Plan.{Plan}
 use Rattle.tree_edits.specs.declared.place.NewPlace.{NewPlace}
 use Rattle.tree_edits.specs.declared.creation.NewPage.{NewPage}
@@ -32,13 +33,9 @@ with_page tree page parent slug body = graft parent End (grown page 1 slug body 
 -- why a page is refused its place, whose parent is there
 abbrev pub place_refusal : Forest Body → ℕ → ℕ → List ℕ → Body → Option Refusal
 place_refusal tree page parent slug body =
-    let after = with_page tree page parent slug body in
+    let rows = rows_of (with_page tree page parent slug body) in
     first_of
-    (slug_taken tree parent slug
-    ∷ steps_full tree parent End
-    ∷ too_deep after
-    ∷ url_too_long after
-    ∷ [])
+    (slug_taken tree parent slug ∷ steps_full rows ∷ too_deep rows ∷ url_too_long rows ∷ [])
 
 -- the URL of a new page, where this kid of its parent has its slug or none has
 abbrev pub planned_url : Option ℕ → List ℕ → Result (List ℕ) UrlFault
@@ -69,10 +66,11 @@ IdsGiven part (Some ids) = (ids_refusal part ≡ None) × (ids ≡ (part.next_pa
 abbrev pub page_rules : worlds.TreePart → ℕ → ℕ → ℕ → List ℕ → ContentValue → List (Option Refusal)
 page_rules part now caller parent slug content =
     let after = created part now caller parent slug content in
+    let rows = rows_of after.tree in
     slug_taken part.tree parent slug
-    ∷ steps_full part.tree parent End
-    ∷ too_deep after.tree
-    ∷ url_too_long after.tree
+    ∷ steps_full rows
+    ∷ too_deep rows
+    ∷ url_too_long rows
     ∷ ids_full LAST_PAGE_ID part.next_page
     ∷ ids_full LAST_REVISION_ID part.next_revision
     ∷ content_full after.revisions
@@ -85,14 +83,28 @@ pub record IsNewPage (part : worlds.TreePart) (parent : ℕ) (slug : List ℕ) (
   pub page : made.page ≡ part.next_page
   pub revision : made.revision ≡ part.next_revision
 
+-- the row of a page that was just made at a path
+abbrev pub fresh_row : ℕ → ℕ → ℕ → List ℕ → List ℕ → PageRow
+fresh_row owner page revision path slug =
+    record {
+      id = page;
+      path = path_text path;
+      depth = length path;
+      numchild = 0;
+      slug = slug;
+      body = fresh_body owner revision;
+    }
+
+-- what a creation changes: a row comes with its first revision, and the next ids go up
+abbrev pub creation_change : ℕ → ℕ → NewPlace → List ℕ → ContentValue → ℕ → ℕ → Change
+creation_change page revision place slug content caller time =
+    let rows = (fresh_row caller page revision place.path slug, place.url) ∷ [] in
+    record (tree_change (Insert rows) time (page + 1) (revision + 1)) {
+      revisions = plain_revision revision page caller time content ∷ [];
+    }
+
 -- the plan of a creation
 abbrev pub creation_plan : NewPage → List ℕ → ContentValue → ℕ → ℕ → Plan
 creation_plan made slug content caller time =
-    record {
-      reply = Page made.page (path_text made.place.path) made.place.url;
-      opened = None;
-      shut = [];
-      time = time;
-      change = Create (fresh_row caller made.page made.revision made.place.path slug)
-          made.place.url (plain_revision made.revision made.page caller time content);
-    }
+    quiet_plan (Page made.page (path_text made.place.path) made.place.url)
+    (creation_change made.page made.revision made.place slug content caller time)

@@ -5,7 +5,6 @@ use Rattle.page_tree.specs.Tree.{Forest}
 use Rattle.page_tree.specs.Rows.{Row, rows_of}
 use Rattle.step_path.specs.Path.{path_text}
 use Rattle.site_types.specs.declared.body.Body.{Body}
-use Rattle.site_types.specs.declared.command.Command.TheVariants.{Move}
 use Rattle.site_types.specs.declared.position.Position.{Position}
 use Rattle.site_types.specs.declared.refusal.Refusal.{Refusal}
 use Rattle.site_types.specs.declared.refusal.Refusal.TheVariants.{IntoItself, NothingNew}
@@ -18,9 +17,8 @@ use Rattle.path_moves.specs.Plans.{planned_move}
 use Rattle.path_moves.specs.declared.fault.PathFault.{PathFault}
 use Rattle.path_moves.specs.declared.fault.PathFault.TheVariants as paths
 use Rattle.site_model.specs.Moves.{into_itself, effect_refusal}
-use Rattle.site_model.specs.Sound.{IsSound}
+use Rattle.tree_edits.specs.Plans.{IsSoundTree, NamesMove}
 use Rattle.site_model.specs.World as worlds
-use Rattle.grants.specs.Needs.{NamesPages}
 use Rattle.grants.specs.declared.fault.Fault.{Fault}
 use Rattle.grants.specs.declared.fault.Fault.TheVariants.{Refused, Memory}
 
@@ -45,8 +43,8 @@ early_fault (Err paths.Memory) = Some Memory
 pub record IsNamed (pages : List (Row Body)) (part : worlds.TreePart) (page target : ℕ)
     (position : Position) : Type 0 where
   pub stands : pages ≡ rows_of part.tree
-  pub sound : IsSound part
-  pub named : NamesPages part.tree (Move page target position)
+  pub sound : IsSoundTree part
+  pub named : NamesMove part.tree page target position
 
 -- It goes to another place, and does not lead into the page itself.
 pub record IsAway (pages : List (Row Body)) (part : worlds.TreePart) (page target : ℕ)

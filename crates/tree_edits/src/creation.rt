@@ -1,19 +1,20 @@
 //! Plans of creations.
-ghost use Rattle.std.specs.Prelude.{◌≡◌, ◌≤◌, IfOk, OnOk};
+ghost use Rattle.std.specs.Prelude.{◌≡◌, ◌≤◌, Option, [], ◌∷◌, IfOk, OnOk};
+ghost use Rattle.site_types.specs.Content.{ContentValue};
 ghost use Rattle.site_types.specs.declared.command.Command.TheVariants as commands;
 ghost use Rattle.site_model.specs.World as worlds;
 ghost use Rattle.site_model.specs.Create.{fresh_body, plain_revision};
 ghost use Rattle.site_model.specs.Rules.{first_of};
-ghost use Rattle.grants.specs.Plans.{Prepares, fresh_row};
+ghost use Rattle.grants.specs.Plans.{Prepares};
 ghost use Rattle.grants.specs.Standing.{IsReady, IsSame};
 ghost use Rattle.tree_edits.specs.Plans.{PlansBy, IsAsked};
-ghost use Rattle.tree_edits.specs.Making.{IdsGiven, page_rules, IsNewPage, creation_plan};
+ghost use Rattle.tree_edits.specs.Making.{IdsGiven, page_rules, IsNewPage, fresh_row, creation_plan};
 
 use crate::place::{NewPlace, plan_place};
 use crate::telling::{later, text_of};
-use grants::{Change, Fault, Plan, TreePart};
+use grants::{Change, Fault, Plan, TreeChange, TreePart};
 use site_types::{
-    Body, Content, Ids, Moment, NoMemory, PageId, PageRow, Refusal, Reply, Revision, RevisionId,
+    Body, Content, Items, Moment, NoMemory, PageId, PageRow, Refusal, Reply, Revision, RevisionId,
     Slug, UserId,
 };
 use std::alloc::Global;
@@ -48,9 +49,9 @@ pub(crate) fn plan_creation(
     requires { (world : worlds.TreePart)
         × IsAsked part.old world caller (commands.Create parent slug.now content.now) }
     ensures same { IsSame part.old part.new }
-    ensures plan { (world : worlds.TreePart)
+    ensures plan { (world : worlds.TreePart) (desk : Option ContentValue)
         → IsAsked part.old world caller (commands.Create parent slug.now content.now)
-        → Prepares world now caller (commands.Create parent slug.now content.now) part.new result }
+        → Prepares world desk now caller (commands.Create parent slug.now content.now) part.new result }
 {
     let _len = part.rows.len();
     let made = match plan_page(alloc, part, parent, slug, content, caller, now) {
@@ -142,21 +143,28 @@ fn new_plan(
         revision,
     } = made;
     let told = place.url.copy(alloc)?;
-    Ok(Plan {
-        reply: Reply::Page {
-            id: page,
-            path: text_of(&place.path),
-            url: told,
-        },
-        opened: None,
-        shut: Ids::from_vec(Vec::new(alloc)),
-        time,
-        change: Change::Create {
-            row: new_row(caller, page, revision, &place.path, slug),
-            url: place.url,
-            revision: new_revision(revision, page, caller, time, content),
-        },
-    })
+    let reply = Reply::Page {
+        id: page,
+        path: text_of(&place.path),
+        url: told,
+    };
+    let row = new_row(caller, page, revision, &place.path, slug);
+    let rows = one_item(alloc, (row, place.url))?;
+    let first = new_revision(revision, page, caller, time, content);
+    let revisions = one_item(alloc, first)?;
+    let tree = TreeChange::Insert { rows };
+    let mut change = Change::of_tree(alloc, tree, time, page.get() + 1, revision.get() + 1);
+    change.revisions = revisions;
+    Ok(Plan::quiet(alloc, reply, change))
+}
+
+/// A list of one item.
+fn one_item<T: Drop>(alloc: Global, item: T) -> Result<Items<T>, NoMemory>
+    ensures { IfOk result (λ items. items ≡ item ∷ []) }
+{
+    let mut items = Vec::with_capacity(alloc, 1)?;
+    items.push(item)?;
+    Ok(Items::from_vec(items))
 }
 
 /// The row of a page that is made at this path, with its first revision.

@@ -1,14 +1,15 @@
 //! Plans of deletions.
-ghost use Rattle.std.specs.Prelude.{◌≡◌, ℕ};
+ghost use Rattle.std.specs.Prelude.{◌≡◌, ℕ, Option};
+ghost use Rattle.site_types.specs.Content.{ContentValue};
 ghost use Rattle.site_types.specs.declared.command.Command.TheVariants as commands;
 ghost use Rattle.site_model.specs.World as worlds;
 ghost use Rattle.grants.specs.Plans.{Prepares};
 ghost use Rattle.tree_edits.specs.Plans.{IsAsked};
 
 use crate::telling::later;
-use grants::{Change, Fault, Plan, TreePart};
+use grants::{Change, Fault, Plan, TreeChange, TreePart};
 use path_moves::plan_delete;
-use site_types::{Ids, Moment, PageId, Reply};
+use site_types::{Moment, PageId, Reply};
 use std::alloc::Global;
 
 /// The plan of a deletion of a page that is there and below the root, which its caller may give. It
@@ -21,18 +22,21 @@ pub(crate) fn plan_deletion(
 ) -> Result<Plan, Fault>
     requires { (world : worlds.TreePart) × (caller : ℕ)
         × IsAsked part.now world caller (commands.Delete page) }
-    ensures { (world : worlds.TreePart) (caller : ℕ)
+    ensures { (world : worlds.TreePart) (desk : Option ContentValue) (caller : ℕ)
         → IsAsked part.now world caller (commands.Delete page)
-        → Prepares world now caller (commands.Delete page) part.now result }
+        → Prepares world desk now caller (commands.Delete page) part.now result }
 {
     let Ok(gone) = plan_delete(alloc, &part.rows, page) else {
         return Err(Fault::Memory);
     };
-    Ok(Plan {
-        reply: Reply::Removed(gone.len() as u32),
-        opened: None,
-        shut: Ids::from_vec(Vec::new(alloc)),
-        time: later(part.time, now),
-        change: Change::Delete { page, gone },
-    })
+    let reply = Reply::Removed(gone.len() as u32);
+    let mut change = Change::of_tree(
+        alloc,
+        TreeChange::Delete { page },
+        later(part.time, now),
+        part.next_page,
+        part.next_revision,
+    );
+    change.gone = gone;
+    Ok(Plan::quiet(alloc, reply, change))
 }

@@ -5,11 +5,9 @@ mod creation;
 mod deletion;
 mod fault;
 mod moving;
-mod naming;
 mod place;
 mod prepare;
 mod renaming;
-mod rights;
 mod telling;
 
 pub use prepare::prepare_tree;

@@ -1,5 +1,6 @@
 //! Plans of moves.
-ghost use Rattle.std.specs.Prelude.{◌≡◌, ℕ};
+ghost use Rattle.std.specs.Prelude.{◌≡◌, ℕ, Option};
+ghost use Rattle.site_types.specs.Content.{ContentValue};
 ghost use Rattle.page_tree.specs.Rows.{rows_of};
 ghost use Rattle.site_types.specs.declared.command.Command.TheVariants as commands;
 ghost use Rattle.tree_model.specs.Places.{stays_put, parent_at, slug_in};
@@ -13,10 +14,10 @@ ghost use Rattle.tree_edits.specs.Moving.{there_rules, early_fault, IsNamed, IsA
 
 use crate::place::both;
 use crate::telling::{later, told_page};
-use grants::{Change, Fault, Plan, TreePart};
-use page_store::{MovePlan, Rows, Urls};
-use path_moves::{PathFault, is_beside, new_parent, plan_move};
-use site_types::{Ids, Moment, PageId, Position, Refusal};
+use grants::{Change, Fault, Plan, TreeChange, TreePart};
+use page_store::{MovePlan, Rows, Urls, is_beside, new_parent};
+use path_moves::{PathFault, plan_move};
+use site_types::{Moment, PageId, Position, Refusal};
 use slug_urls::{UrlFault, plan_urls};
 use std::alloc::Global;
 
@@ -35,10 +36,11 @@ pub(crate) fn plan_moving(
     requires { (world : worlds.TreePart) × (caller : ℕ)
         × IsAsked part.old world caller (commands.Move page target position) }
     ensures same { IsSame part.old part.new }
-    ensures plan { (world : worlds.TreePart) (caller : ℕ)
+    ensures plan { (world : worlds.TreePart) (desk : Option ContentValue) (caller : ℕ)
         → IsAsked part.old world caller (commands.Move page target position)
-        → Prepares world now caller (commands.Move page target position) part.new result }
+        → Prepares world desk now caller (commands.Move page target position) part.new result }
 {
+    let _len = part.rows.len();
     let (plan, urls) = match plan_there(alloc, &part.rows, page, target, position) {
         Ok(made) => made,
         Err(fault) => return Err(fault),
@@ -49,13 +51,14 @@ pub(crate) fn plan_moving(
     let Ok(()) = part.rows.reserve(2) else {
         return Err(Fault::Memory);
     };
-    Ok(Plan {
-        reply,
-        opened: None,
-        shut: Ids::from_vec(Vec::new(alloc)),
-        time: later(part.time, now),
-        change: Change::Move { plan, urls },
-    })
+    let change = Change::of_tree(
+        alloc,
+        TreeChange::Move { plan, urls },
+        later(part.time, now),
+        part.next_page,
+        part.next_revision,
+    );
+    Ok(Plan::quiet(alloc, reply, change))
 }
 
 /// The plan of a move and the URLs that change with it, or why it is refused: the first of the

@@ -7,7 +7,7 @@ ghost use Rattle.tree_model.specs.Changes.{url_in};
 ghost use Rattle.slug_urls.specs.Flat.{if_fits};
 ghost use Rattle.slug_urls.specs.Plans.{UnlessMemory};
 ghost use Rattle.site_model.specs.World.{TreePart as PagePart};
-ghost use Rattle.site_model.specs.Sound.{IsSound};
+ghost use Rattle.tree_edits.specs.Plans.{IsSoundTree};
 ghost use Rattle.tree_edits.specs.Faults.{both_of, first_fault_of};
 ghost use Rattle.tree_edits.specs.Plans.{PlansBy};
 ghost use Rattle.tree_edits.specs.Making.{IsPlace, place_refusal, planned_url};
@@ -43,10 +43,10 @@ pub(crate) fn plan_place(
     parent: PageId,
     slug: &Slug,
 ) -> Result<NewPlace, Fault>
-    requires { (part : PagePart) × (rows.now.pages ≡ rows_of part.tree) × IsSound part
+    requires { (part : PagePart) × (rows.now.pages ≡ rows_of part.tree) × IsSoundTree part
         × (has_page parent part.tree ≡ true) }
     ensures { (part : PagePart) (body : PageBody) → rows.now.pages ≡ rows_of part.tree
-        → IsSound part → has_page parent part.tree ≡ true
+        → IsSoundTree part → has_page parent part.tree ≡ true
         → PlansBy (place_refusal part.tree part.next_page parent slug.now body)
         (IsPlace part.tree parent slug.now) result }
 {

@@ -1,23 +1,22 @@
 //! From a command on the tree to its plan.
-ghost use Rattle.std.specs.Prelude.{◌≡◌, ℕ, true};
+ghost use Rattle.std.specs.Prelude.{◌≡◌, ℕ, true, Option};
+ghost use Rattle.site_types.specs.Content.{ContentValue};
 ghost use Rattle.site_model.specs.World as worlds;
-ghost use Rattle.site_model.specs.Laws.{FitsCaller, is_on_tree};
+ghost use Rattle.site_model.specs.Laws.{FitsCommand};
 ghost use Rattle.grants.specs.Standing.{IsReady, IsSame};
 ghost use Rattle.grants.specs.Plans.{Prepares};
-ghost use Rattle.tree_edits.specs.Plans.{IsAsked};
+ghost use Rattle.tree_edits.specs.Plans.{IsAsked, is_on_tree};
 
 use crate::creation::plan_creation;
 use crate::deletion::plan_deletion;
 use crate::moving::plan_moving;
-use crate::naming::unnamed;
 use crate::renaming::plan_renaming;
-use crate::rights::allowed;
-use grants::{Fault, Plan, TreePart};
+use grants::{Fault, Plan, TreePart, front};
 use site_types::{Command, Content, Moment, UserId};
 use std::alloc::Global;
 
 /// The plan of a command on the tree by a user at a moment, or why it is refused: the first of its
-/// rules that refuses it, in the order of their numbers, or want of memory. It changes nothing but
+/// rules that refuses it, in the order of their numbers, or out of memory. It changes nothing but
 /// spare room.
 ///
 /// None of these commands looks at a desk.
@@ -30,22 +29,19 @@ pub fn prepare_tree(
     _desk: Option<&Content>,
 ) -> Result<Plan, Fault>
     requires tree { is_on_tree command.now ≡ true }
-    requires ready { (world : worlds.TreePart) × IsReady part.old world × FitsCaller command.now }
+    requires ready { (world : worlds.TreePart) × IsReady part.old world × FitsCommand command.now }
     ensures same { IsSame part.old part.new }
-    ensures plan { (world : worlds.TreePart) → IsReady part.old world → FitsCaller command.now
-        → Prepares world now caller command.now part.new result }
+    ensures plan { (world : worlds.TreePart) (desk : Option ContentValue) → IsReady part.old world
+        → FitsCommand command.now → Prepares world desk now caller command.now part.new result }
 {
-    if let Some(refusal) = unnamed(&part.rows, command) {
-        return Err(Fault::Refused(refusal));
-    }
-    match allowed(part, caller, command) {
-        Ok(()) => plan_allowed(alloc, part, command, caller, now),
-        Err(fault) => Err(fault),
+    match front(part, caller, command) {
+        Ok(()) => plan_passed(alloc, part, command, caller, now),
+        Err(refusal) => Err(Fault::Refused(refusal)),
     }
 }
 
-/// The plan of a command that names pages which are there, and which its caller may give.
-fn plan_allowed(
+/// The plan of a command on the tree that none of its first six rules refuses.
+fn plan_passed(
     alloc: Global,
     part: &mut TreePart,
     command: &Command,
@@ -55,8 +51,9 @@ fn plan_allowed(
     requires tree { is_on_tree command.now ≡ true }
     requires asked { (world : worlds.TreePart) × IsAsked part.old world caller command.now }
     ensures same { IsSame part.old part.new }
-    ensures plan { (world : worlds.TreePart) → IsAsked part.old world caller command.now
-        → Prepares world now caller command.now part.new result }
+    ensures plan { (world : worlds.TreePart) (desk : Option ContentValue)
+        → IsAsked part.old world caller command.now
+        → Prepares world desk now caller command.now part.new result }
 {
     match command {
         Command::Create {

@@ -1,17 +1,19 @@
 //! Plans of other slugs.
-ghost use Rattle.std.specs.Prelude.{◌≡◌, ℕ};
+ghost use Rattle.std.specs.Prelude.{◌≡◌, ℕ, Option};
+ghost use Rattle.site_types.specs.Content.{ContentValue};
 ghost use Rattle.site_types.specs.declared.command.Command.TheVariants as commands;
 ghost use Rattle.site_model.specs.World as worlds;
 ghost use Rattle.grants.specs.Plans.{Prepares};
 ghost use Rattle.grants.specs.Standing.{IsSame};
 ghost use Rattle.tree_edits.specs.Plans.{PlansBy, IsAsked};
-ghost use Rattle.tree_edits.specs.Naming.{slug_refusal, IsBelow, AreNewUrls};
+ghost use Rattle.site_model.specs.Slugs.{slug_rules};
+ghost use Rattle.tree_edits.specs.Naming.{IsBelow, AreNewUrls};
 
 use crate::fault::url_fault;
 use crate::telling::{later, told_page};
-use grants::{Change, Fault, Plan, TreePart};
+use grants::{Change, Fault, Plan, TreeChange, TreePart};
 use page_store::{Relabels, Rows, Urls};
-use site_types::{Ids, Moment, PageId, Refusal, Slug};
+use site_types::{Moment, PageId, Refusal, Slug};
 use slug_urls::plan_urls;
 use std::alloc::Global;
 
@@ -28,10 +30,11 @@ pub(crate) fn plan_renaming(
     requires { (world : worlds.TreePart) × (caller : ℕ)
         × IsAsked part.old world caller (commands.SetSlug page slug.now) }
     ensures same { IsSame part.old part.new }
-    ensures plan { (world : worlds.TreePart) (caller : ℕ)
+    ensures plan { (world : worlds.TreePart) (desk : Option ContentValue) (caller : ℕ)
         → IsAsked part.old world caller (commands.SetSlug page slug.now)
-        → Prepares world now caller (commands.SetSlug page slug.now) part.new result }
+        → Prepares world desk now caller (commands.SetSlug page slug.now) part.new result }
 {
+    let _len = part.rows.len();
     let urls = match urls_with(alloc, &part.rows, page, slug) {
         Ok(urls) => urls,
         Err(fault) => return Err(fault),
@@ -43,17 +46,15 @@ pub(crate) fn plan_renaming(
     let Ok(()) = part.rows.reserve(3) else {
         return Err(Fault::Memory);
     };
-    Ok(Plan {
-        reply,
-        opened: None,
-        shut: Ids::from_vec(Vec::new(alloc)),
-        time: later(part.time, now),
-        change: Change::SetSlug {
-            page,
-            slug: slug.copy(),
-            urls,
-        },
-    })
+    let slug = slug.copy();
+    let change = Change::of_tree(
+        alloc,
+        TreeChange::Rename { page, slug, urls },
+        later(part.time, now),
+        part.next_page,
+        part.next_revision,
+    );
+    Ok(Plan::quiet(alloc, reply, change))
 }
 
 /// The URLs that change where a page gets the slug, or why it is refused: it has the slug already,
@@ -61,7 +62,7 @@ pub(crate) fn plan_renaming(
 fn urls_with(alloc: Global, rows: &Rows, page: PageId, slug: &Slug) -> Result<Urls, Fault>
     requires { (part : worlds.TreePart) × IsBelow rows.now.pages part page slug.now }
     ensures { (part : worlds.TreePart) → IsBelow rows.now.pages part page slug.now
-        → PlansBy (slug_refusal part.tree page slug.now) (AreNewUrls part.tree page slug.now) result }
+        → PlansBy (slug_rules part.tree page slug.now) (AreNewUrls part.tree page slug.now) result }
 {
     let _len = rows.len();
     let Some(row) = rows.row(page) else {

@@ -2,6 +2,7 @@
 ghost use Rattle.std.specs.Prelude.{◌≡◌, ℕ, List, nat_eq, IfOk, IsSome, unwrap_or, max};
 ghost use Rattle.std.specs.Option.{option_copied};
 ghost use Rattle.std.specs.Map.{lookup};
+ghost use Rattle.site_ids.specs.Moment.{IsMoment};
 ghost use Rattle.page_tree.specs.Rows.{row_with};
 ghost use Rattle.step_path.specs.Path.{path_text};
 ghost use Rattle.tree_model.specs.Changes.{path_in, url_in};
@@ -100,7 +101,8 @@ pub(crate) fn text_of(path: &Path) -> PathText
 
 /// The later of two moments.
 pub(crate) fn later(time: Moment, now: Moment) -> Moment
-    ensures { result ≡ max time now }
+    ensures value { result ≡ max time now }
+    ensures moment { IsMoment now }
 {
     if time.get() < now.get() { now } else { time }
 }

@@ -1,13 +1,13 @@
 -- What holds of a tree of pages that commands reach.
 use Rattle.std.specs.Prelude.{◌≡◌, ℕ, ◌≤◌, List, [], None}
 use Rattle.page_tree.specs.Tree.{Forest, bare, grown, kid_with_slug}
-use Rattle.site_types.specs.RootBody.{root_body}
 use Rattle.site_types.specs.declared.body.Body.{Body}
 
 -- A tree that has the root alone at its top: page 1, at step 1, with an empty slug.
 pub record IsWhole (tree : Forest Body) : Type 0 where
+  pub own : Body
   pub kids : Forest Body
-  pub is : tree ≡ grown 1 1 [] root_body kids bare
+  pub is : tree ≡ grown 1 1 [] own kids bare
 
 -- each page has P of its id, its slug and what is kept of it
 abbrev pub AllPages : {Kept : Type 0} → (ℕ → List ℕ → Kept → Type 0) → Forest Kept → Type 0

@@ -1,88 +1,312 @@
--- What holds of each command that a body can ask for by a form holds of each that a request can ask
--- for.
-use Rattle.std.proofs.Common.{◌≡◌, ℕ, Bool, true, false, cond, List, Option, Some, None, Result, Ok, subst}
-use Rattle.std.specs.Prelude.{IfSome, option_map, option_and_then}
+-- What holds of each command that a body can ask for, by a form of the table of routes, holds of
+-- each command that a request can ask for.
+use Rattle.std.proofs.Common.{◌≡◌, ◌&&◌, ℕ, Bool, true, false, cond, bytes_eq, List, [], ◌∷◌, length, codes, Option, Some, None, Result, Ok, refl, subst}
+use Rattle.std.specs.Prelude.{IfSome, option_map, option_and_then, unwrap_or}
+use Rattle.std.specs.Option.{option_or}
+use Rattle.std.specs.List.{list_all}
 use Rattle.serde_json.specs.Data.{Data}
+use Rattle.serde_json.specs.Find.{get}
+use Rattle.site_ids.specs.Slug.{IsSlug}
+use Rattle.site_ids.specs.declared.digest.TheConstants.{DIGEST_BYTES}
+use Rattle.site_types.specs.Content.{ContentValue, FitsLimits}
 use Rattle.site_types.specs.declared.command.Command.{Command}
+use Rattle.site_types.specs.declared.command.Command.TheVariants.{Create, Move, SetSlug, DefineUser, DefineGroup, Member, Grant}
+use Rattle.site_types.specs.declared.permission.Permission.{Permission}
+use Rattle.site_types.specs.declared.position.Position.{Position}
 use Rattle.http_model.specs.declared.method.Method.{Method}
 use Rattle.http_model.specs.declared.method.Method.TheVariants as methods
 use Rattle.http_model.specs.Requests.{Request}
+use Rattle.json_model.specs.Members.{has_exactly, text_at}
 use Rattle.wire_model.specs.declared.call.Call.{Call}
-use Rattle.wire_model.specs.declared.call.Call.TheVariants.{Run, Page, Public}
+use Rattle.wire_model.specs.declared.call.Call.TheVariants.{Run, Public}
 use Rattle.wire_model.specs.declared.call.RouteFault.{RouteFault}
 use Rattle.wire_model.specs.declared.call.RouteFault.TheVariants.{Form}
 use Rattle.wire_model.specs.declared.form.CommandForm.{CommandForm}
-use Rattle.wire_model.specs.Forms.{command_in, command_asked, data_of}
-use Rattle.wire_model.specs.Routes.{Route, id_written, closed_path, or_fault, by_post, by_get, call_on, route_of, call_of}
+use Rattle.wire_model.specs.declared.form.CommandForm.TheVariants as forms
+use Rattle.wire_model.specs.declared.form.PageVerb.{PageVerb}
+use Rattle.wire_model.specs.declared.form.ReadForm.{ReadForm}
+use Rattle.wire_model.specs.declared.form.ReadForm.TheVariants.{Card}
+use Rattle.wire_model.specs.Tables.{named}
+use Rattle.wire_model.specs.Forms.{id_at, slug_at, content_at, position_at, permission_at, truth_at, user_at, group_at, digest_at, creation_of, move_of, slug_change_of, command_on, user_definition_of, membership_of, grant_asked_of, command_in, command_asked, data_of}
+use Rattle.wire_model.specs.Routes.{Route, command_routes, read_routes, command_route, read_route, has_part_after, after_front, read_at, command_at, is_api, beside, id_written, closed_path, or_fault, by_post, by_get, read_call, call_on, route_of, call_of}
 use Rattle.wire_model.specs.Routes as routes
+use Rattle.wire_model.proofs.ReadLemmas.{AreSlugs, AreDigests, member_slug, member_content, read_digest}
 
--- a command, where there is one, is such
+-- a command, if there is one, is one of these
 abbrev pub AreSuch : (Command → Type 0) → Option Command → Type 0
 AreSuch Such asked = IfSome asked Such
 
--- the command of a call, where it has one, is such
-abbrev pub AsksSuch : (Command → Type 0) → Result Call RouteFault → Type 0
+-- the command of a call, if it has one, is one of these
+abbrev AsksSuch : (Command → Type 0) → Result Call RouteFault → Type 0
 AsksSuch Such (Ok (Run command)) = Such command
 AsksSuch Such _ = Unit {0}
 
--- of nothing or what is such
-pub such_if : (Such : Command → Type 0) (test : Bool) (asked : Option Command) →
-    AreSuch Such asked → AreSuch Such (cond test asked None)
+-- whether a form, if there is one, passes a test
+abbrev pub passes : (CommandForm → Bool) → Option CommandForm → Bool
+passes test (Some form) = test form
+passes test None = true
+
+-- the form of a route of commands passes a test
+abbrev RoutePasses : (CommandForm → Bool) → Route → Type 0
+RoutePasses test (routes.command form) = test form ≡ true
+RoutePasses test (routes.read_named form text) = Unit {0}
+RoutePasses test routes.unbuilt = Unit {0}
+RoutePasses test routes.nowhere = Unit {0}
+RoutePasses test routes.public_page = Unit {0}
+
+-- What is to be shown of a fact of commands: that it holds of each kind of command that a body can
+-- ask for by a form that passes a test. Its slug, its content and its digest fit.
+pub record HoldsOfForms (Such : Command → Type 0) (test : CommandForm → Bool) : Type 0 where
+  pub creation : (parent : ℕ) (slug : List ℕ) (content : ContentValue) → IsSlug slug →
+      FitsLimits content → Such (Create parent slug content)
+  pub moving : (page target : ℕ) (position : Position) → Such (Move page target position)
+  pub naming : (page : ℕ) (slug : List ℕ) → IsSlug slug → Such (SetSlug page slug)
+  pub on_page : (verb : PageVerb) (page : ℕ) → test (forms.OnPage verb) ≡ true →
+      Such (command_on verb page)
+  pub user : (digest : List ℕ) (superuser : Bool) → length digest ≡ DIGEST_BYTES →
+      Such (DefineUser superuser digest)
+  pub group : Such DefineGroup
+  pub membership : (user group : ℕ) (on : Bool) → Such (Member user group on)
+  pub granting : (group page : ℕ) (permission : Permission) (on : Bool) →
+      Such (Grant group page permission on)
+
+-- the first of two that hold together holds
+first_holds : (first second : Bool) → (first && second) ≡ true → first ≡ true
+first_holds true second is = refl
+first_holds false second is = absurd (cc)
+
+-- the second of two that hold together holds
+second_holds : (first second : Bool) → (first && second) ≡ true → second ≡ true
+second_holds true second is = is
+second_holds false second is = absurd (cc)
+
+module _ (test : CommandForm → Bool) where
+  -- the route of a form that passes is one whose form passes
+  route_passes : (form : Option CommandForm) → passes test form ≡ true →
+      RoutePasses test (command_route form)
+  route_passes (Some form) is = is
+  route_passes None is = tt
+
+  -- the route that a table of forms that pass has for a path passes
+  command_passes : (table : List (List ℕ × Option CommandForm)) (path : List ℕ) →
+      list_all (λ row. passes test row.1) table ≡ true →
+      IfSome (command_at table path) (RoutePasses test)
+  command_passes [] path all = tt
+  command_passes (row ∷ table) path all =
+      by (bytes_eq path row.0)
+      (route_passes row.1
+      (first_holds (passes test row.1) (list_all (λ row. passes test row.1) table) all))
+      (command_passes table path
+      (second_holds (passes test row.1) (list_all (λ row. passes test row.1) table) all))
+    where
+      by : (v : Bool) → RoutePasses test (command_route row.1) →
+          IfSome (command_at table path) (RoutePasses test) →
+          IfSome (option_map command_route (cond v (Some row.1) (named table path)))
+          (RoutePasses test)
+      by true here later = here
+      by false here later = later
+
+  -- a route that reads has no form of commands
+  reading_passes : (text : List ℕ) (form : Option ReadForm) →
+      RoutePasses test (read_route text form)
+  reading_passes text (Some form) = tt
+  reading_passes text None = tt
+
+  -- so the route of reads of a path passes
+  read_passes : (table : List (List ℕ × Option ReadForm)) (path : List ℕ) →
+      IfSome (read_at table path) (RoutePasses test)
+  read_passes [] path = tt
+  read_passes (row ∷ table) path =
+      by (has_part_after row.0 path) (reading_passes (after_front row.0 path) row.1)
+      (read_passes table path)
+    where
+      by : (v : Bool) → RoutePasses test (read_route (after_front row.0 path) row.1) →
+          IfSome (read_at table path) (RoutePasses test) →
+          IfSome (cond v (Some (read_route (after_front row.0 path) row.1)) (read_at table path))
+          (RoutePasses test)
+      by true here later = here
+      by false here later = later
+
+  -- a path that is no route of the API has no form
+  beside_passes : (path : List ℕ) → RoutePasses test (beside path)
+  beside_passes path = by (is_api path)
+    where
+      by : (v : Bool) → RoutePasses test (cond v routes.nowhere routes.public_page)
+      by true = tt
+      by false = tt
+
+  -- the first of routes that pass is one that passes
+  first_passes : (reading running : Option Route) (other : Route) →
+      IfSome reading (RoutePasses test) → IfSome running (RoutePasses test) →
+      RoutePasses test other → RoutePasses test (unwrap_or (option_or reading running) other)
+  first_passes (Some reading) running other is runs rest = is
+  first_passes None (Some running) other is runs rest = runs
+  first_passes None None other is runs rest = rest
+
+  -- if each form of the table of routes passes, so does the route of each path
+  all_pass : list_all (λ row. passes test row.1) command_routes ≡ true → (path : List ℕ) →
+      RoutePasses test (route_of path)
+  unfolding route_of
+  all_pass all path =
+      first_passes (read_at read_routes path) (command_at command_routes path) (beside path)
+      (read_passes read_routes path) (command_passes command_routes path all) (beside_passes path)
+
+-- what is asked for only where a test holds is one of these
+such_if : (Such : Command → Type 0) (holds : Bool) (asked : Option Command) →
+    AreSuch Such asked → AreSuch Such (cond holds asked None)
 such_if Such true asked is = is
 such_if Such false asked is = tt
 
-module _ (Such : Command → Type 0)
-    (form_is : (form : CommandForm) (value : Data) → AreSuch Such (command_in form value)) where
-  -- what a body asks for by a form is such
-  body_is : (form : CommandForm) (found : Option Data) →
-      AreSuch Such (option_and_then (command_in form) found)
-  body_is form (Some value) = form_is form value
-  body_is form None = tt
+module _ (Such : Command → Type 0) (test : CommandForm → Bool) (hold : HoldsOfForms Such test) where
+  -- a creation is one of these
+  creation_is : (parent : Option ℕ) (slug : Option (List ℕ)) (content : Option ContentValue) →
+      AreSlugs slug → IfSome content FitsLimits → AreSuch Such (creation_of parent slug content)
+  creation_is (Some parent) (Some slug) (Some content) is fits =
+      hold.creation parent slug content is fits
+  creation_is (Some parent) (Some slug) None is fits = tt
+  creation_is (Some parent) None content is fits = tt
+  creation_is None slug content is fits = tt
 
-  -- so is what a call of it asks for
+  -- so is a move
+  move_is : (page target : Option ℕ) (position : Option Position) →
+      AreSuch Such (move_of page target position)
+  move_is (Some page) (Some target) (Some position) = hold.moving page target position
+  move_is (Some page) (Some target) None = tt
+  move_is (Some page) None position = tt
+  move_is None target position = tt
+
+  -- so is a change of a slug
+  slug_is : (page : Option ℕ) (slug : Option (List ℕ)) → AreSlugs slug →
+      AreSuch Such (slug_change_of page slug)
+  slug_is (Some page) (Some slug) is = hold.naming page slug is
+  slug_is (Some page) None is = tt
+  slug_is None slug is = tt
+
+  -- so is a command on a page
+  page_is : (verb : PageVerb) (page : Option ℕ) → test (forms.OnPage verb) ≡ true →
+      AreSuch Such (option_map (command_on verb) page)
+  page_is verb (Some page) passed = hold.on_page verb page passed
+  page_is verb None passed = tt
+
+  -- so is the definition of a user
+  user_is : (digest : Option (List ℕ)) (superuser : Option Bool) → AreDigests digest →
+      AreSuch Such (user_definition_of digest superuser)
+  user_is (Some digest) (Some superuser) is = hold.user digest superuser is
+  user_is (Some digest) None is = tt
+  user_is None superuser is = tt
+
+  -- so is a membership
+  member_is : (user group : Option ℕ) (on : Option Bool) →
+      AreSuch Such (membership_of user group on)
+  member_is (Some user) (Some group) (Some on) = hold.membership user group on
+  member_is (Some user) (Some group) None = tt
+  member_is (Some user) None on = tt
+  member_is None group on = tt
+
+  -- so is a grant
+  grant_is : (group page : Option ℕ) (permission : Option Permission) (on : Option Bool) →
+      AreSuch Such (grant_asked_of group page permission on)
+  grant_is (Some group) (Some page) (Some permission) (Some on) =
+      hold.granting group page permission on
+  grant_is (Some group) (Some page) (Some permission) None = tt
+  grant_is (Some group) (Some page) None on = tt
+  grant_is (Some group) None permission on = tt
+  grant_is None page permission on = tt
+
+  -- what an object asks for by a form that passes is one of these
+  form_is : (form : CommandForm) (value : Data) → test form ≡ true →
+      AreSuch Such (command_in form value)
+  form_is forms.Create value passed =
+      such_if Such (has_exactly (codes "content" ∷ codes "parent" ∷ codes "slug" ∷ []) value)
+      (creation_of (id_at (codes "parent") value) (slug_at value) (content_at value))
+      (creation_is (id_at (codes "parent") value) (slug_at value) (content_at value)
+      (member_slug (get (codes "slug") value)) (member_content (get (codes "content") value)))
+  form_is forms.Move value passed =
+      such_if Such (has_exactly (codes "page" ∷ codes "position" ∷ codes "target" ∷ []) value)
+      (move_of (id_at (codes "page") value) (id_at (codes "target") value) (position_at value))
+      (move_is (id_at (codes "page") value) (id_at (codes "target") value) (position_at value))
+  form_is forms.SetSlug value passed =
+      such_if Such (has_exactly (codes "page" ∷ codes "slug" ∷ []) value)
+      (slug_change_of (id_at (codes "page") value) (slug_at value))
+      (slug_is (id_at (codes "page") value) (slug_at value)
+      (member_slug (get (codes "slug") value)))
+  form_is (forms.OnPage verb) value passed =
+      such_if Such (has_exactly (codes "page" ∷ []) value)
+      (option_map (command_on verb) (id_at (codes "page") value))
+      (page_is verb (id_at (codes "page") value) passed)
+  form_is forms.DefineUser value passed =
+      such_if Such (has_exactly (codes "digest" ∷ codes "superuser" ∷ []) value)
+      (user_definition_of (digest_at value) (truth_at (codes "superuser") value))
+      (user_is (digest_at value) (truth_at (codes "superuser") value)
+      (read_digest (text_at (codes "digest") value)))
+  form_is forms.DefineGroup value passed =
+      such_if Such (has_exactly [] value) (Some DefineGroup) hold.group
+  form_is forms.Member value passed =
+      such_if Such (has_exactly (codes "group" ∷ codes "on" ∷ codes "user" ∷ []) value)
+      (membership_of (user_at value) (group_at value) (truth_at (codes "on") value))
+      (member_is (user_at value) (group_at value) (truth_at (codes "on") value))
+  form_is forms.Grant value passed =
+      such_if Such
+      (has_exactly (codes "group" ∷ codes "on" ∷ codes "page" ∷ codes "permission" ∷ []) value)
+      (grant_asked_of (group_at value) (id_at (codes "page") value) (permission_at value)
+      (truth_at (codes "on") value))
+      (grant_is (group_at value) (id_at (codes "page") value) (permission_at value)
+      (truth_at (codes "on") value))
+
+  -- what a body asks for by a form that passes is one of these
+  body_is : (form : CommandForm) (found : Option Data) → test form ≡ true →
+      AreSuch Such (option_and_then (command_in form) found)
+  body_is form (Some value) passed = form_is form value passed
+  body_is form None passed = tt
+
+  -- the command of a call is one of these, if what is asked for is
   call_is : (asked : Option Command) → AreSuch Such asked →
       AsksSuch Such (or_fault (option_map Run asked) Form)
   call_is (Some asked) is = is
   call_is None is = tt
 
-  -- by the method that it must have
+  -- so it is by the method that the route takes
   post_is : (method : Method) (call : Result Call RouteFault) → AsksSuch Such call →
       AsksSuch Such (by_post method call)
   post_is methods.Get call is = tt
   post_is methods.Post call is = is
   post_is methods.Other call is = tt
 
-  -- what a card's route asks for is no command
-  card_is : (method : Method) (id : Option ℕ) →
-      AsksSuch Such (by_get method (or_fault (option_map Page id) Form))
-  card_is methods.Get (Some id) = tt
-  card_is methods.Get None = tt
-  card_is methods.Post id = tt
-  card_is methods.Other id = tt
+  -- a read asks for no command
+  read_is : (form : ReadForm) (id : Option ℕ) →
+      AsksSuch Such (or_fault (option_map (read_call form) id) Form)
+  read_is Card (Some id) = tt
+  read_is Card None = tt
 
-  -- nor is what everybody may ask for
-  public_is : (method : Method) (url : List ℕ) →
-      AsksSuch Such (by_get method (Ok (Public url)))
-  public_is methods.Get url = tt
-  public_is methods.Post url = tt
-  public_is methods.Other url = tt
+  -- nor does it by any method
+  get_is : (method : Method) (call : Result Call RouteFault) → AsksSuch Such call →
+      AsksSuch Such (by_get method call)
+  get_is methods.Get call is = is
+  get_is methods.Post call is = tt
+  get_is methods.Other call is = tt
 
-  -- what a request asks for on a route is such
-  route_is : (route : Route) (request : Request) → AsksSuch Such (call_on route request)
+  -- the command that a request asks for on a route whose form passes is one of these
+  route_is : (route : Route) (request : Request) → RoutePasses test route →
+      AsksSuch Such (call_on route request)
   unfolding command_asked
-  route_is (routes.command form) request =
+  route_is (routes.command form) request passed =
       post_is request.method
       (or_fault (option_map Run (option_and_then (command_in form) (data_of request.body))) Form)
       (call_is (option_and_then (command_in form) (data_of request.body))
-      (body_is form (data_of request.body)))
-  route_is (routes.card_named text) request = card_is request.method (id_written text)
-  route_is routes.unbuilt request = tt
-  route_is routes.nowhere request = tt
-  route_is routes.public_page request = public_is request.method (closed_path request.path)
+      (body_is form (data_of request.body) passed))
+  route_is (routes.read_named form text) request passed =
+      get_is request.method (or_fault (option_map (read_call form) (id_written text)) Form)
+      (read_is form (id_written text))
+  route_is routes.unbuilt request passed = tt
+  route_is routes.nowhere request passed = tt
+  route_is routes.public_page request passed =
+      get_is request.method (Ok (Public (closed_path request.path))) tt
 
-  -- each command that a request can ask for is such
-  pub asked_is : (request : Request) (command : Command) →
-      call_of request ≡ Ok (Run command) → Such command
+  -- if each form of the table of routes passes, each command that a request can ask for is one of
+  -- these
+  pub asked_is : list_all (λ row. passes test row.1) command_routes ≡ true → (request : Request)
+      (command : Command) → call_of request ≡ Ok (Run command) → Such command
   unfolding call_of
-  asked_is request command is =
-      subst (AsksSuch Such) is (route_is (route_of request.path) request)
+  asked_is all request command is =
+      subst (AsksSuch Such) is
+      (route_is (route_of request.path) request (all_pass test all request.path))

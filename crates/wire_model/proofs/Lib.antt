@@ -1,5 +1,6 @@
 pub mod TranscriptLemmas
+pub mod ReadLemmas
 pub mod AskedLemmas
 pub mod BuiltLemmas
-pub mod SlugLemmas
+pub mod FitLemmas
 pub mod LiveLemmas

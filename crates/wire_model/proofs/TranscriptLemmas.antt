@@ -7,9 +7,9 @@ use Rattle.site_types.specs.declared.command.Command.{Command}
 use Rattle.site_types.specs.declared.entry.Entry.{Entry}
 use Rattle.site_types.specs.declared.refusal.Refusal.{Refusal}
 use Rattle.site_types.specs.declared.reply.Reply.{Reply}
-use Rattle.site_history.specs.History.{Tally, Item, tick, tick_all, AllMayStand, reply_of}
+use Rattle.site_history.specs.History.{Tally, Item, tick, tick_all, AllMayStand, decide}
 use Rattle.site_model.specs.World.{World}
-use Rattle.site_model.specs.Step.{step}
+use Rattle.site_model.specs.Step.{is_built}
 use Rattle.http_model.specs.Requests.{Request, whole, IsFront}
 use Rattle.http_model.proofs.FrontLemmas.{one_front}
 use Rattle.http_model.proofs.FinalLemmas.{final_stays}
@@ -19,17 +19,17 @@ use Rattle.wire_model.specs.declared.call.Call.TheVariants.{Run, Page, Public}
 use Rattle.wire_model.specs.declared.call.RouteFault.{RouteFault}
 use Rattle.wire_model.specs.Cards.{card_of}
 use Rattle.wire_model.specs.Routes.{call_of}
-use Rattle.wire_model.specs.Exchange.{Past, IsLegal, number_of, tally_of, user_of, is_built, entry_of, Outcome, decided, run, card_told, called, called_by, called_with, asked, exchange}
+use Rattle.wire_model.specs.Exchange.{Past, IsLegal, decider, tally_of, user_of, entry_of, Outcome, decided, run, card_told, called, called_by, called_with, asked, exchange}
 use Rattle.wire_model.specs.Transcript.{Told, outcome, after_told, EndsWhereClosing, Follows, closes, HasMoments}
 use Rattle.wire_model.specs.Laws.{AsksNothing}
 
 -- what is added may stand after a history
 abbrev AddsLegal : Tally World → Outcome → Type 0
-AddsLegal tally added = AllMayStand step number_of tally added.added
+AddsLegal tally added = AllMayStand decider tally added.added
 
 -- an entry with the next number is added legally
 decided_legal : (tally : Tally World) (entry : Entry) (r : Result Reply Refusal) →
-    reply_of step number_of (step tally.world entry) ≡ r → entry.number ≡ tally.number + 1 →
+    decide decider tally entry ≡ r → entry.number ≡ tally.number + 1 →
     AddsLegal tally (decided entry r)
 decided_legal tally entry (Ok reply) is next = ((next, is), tt)
 decided_legal tally entry (Err refusal) is next = tt
@@ -39,7 +39,7 @@ run_legal : (tally : Tally World) (user moment : ℕ) (command : Command) (built
     is_built command ≡ built → AddsLegal tally (run tally user moment command)
 run_legal tally user moment command true is =
     let entry : Entry = entry_of user moment command (tally.number + 1) in
-    rw is (decided_legal tally entry (reply_of step number_of (step tally.world entry)) refl refl)
+    rw is (decided_legal tally entry (decide decider tally entry) refl refl)
 run_legal tally user moment command false is = rw is tt
 
 -- a card adds nothing
@@ -84,18 +84,21 @@ exchange_legal tally request moment = asked_legal tally moment request.token (ca
 
 -- legal items, and more that may stand after them, are legal together
 AllMayStand-append : (tally : Tally World) (xs ys : List (Item Entry Reply)) →
-    AllMayStand step number_of tally xs →
-    AllMayStand step number_of (tick_all step number_of tally xs) ys →
-    AllMayStand step number_of tally (xs ++ ys)
+    AllMayStand decider tally xs →
+    AllMayStand decider (tick_all decider tally xs) ys →
+    AllMayStand decider tally (xs ++ ys)
 AllMayStand-append tally [] ys all next = next
 AllMayStand-append tally (x ∷ xs) ys all next =
-    (all.0, AllMayStand-append (tick step number_of tally x) xs ys all.1 next)
+    (all.0, AllMayStand-append (tick decider tally x) xs ys all.1 next)
 
 -- a request leaves a legal history legal
 told_legal : (past : Past) (told : Told) → IsLegal past → IsLegal (after_told past told)
 told_legal past told legal =
-    AllMayStand-append past.start past.items (outcome past told).added legal
-    (exchange_legal (tally_of past) told.request told.moment)
+    record {
+      start = legal.start;
+      items = AllMayStand-append past.start past.items (outcome past told).added legal.items
+          (exchange_legal (tally_of past) told.request told.moment);
+    }
 
 -- a transcript from a legal history on leaves a legal one
 pub transcript_keeps_legal : (past after : Past) (bytes rest : List ℕ) (told : List Told) →
@@ -104,12 +107,12 @@ transcript_keeps_legal past after bytes rest [] legal h = rw (h.0) legal
 transcript_keeps_legal past after bytes rest (x ∷ told) legal h =
     transcript_keeps_legal (after_told past x) after h.0 rest told (told_legal past x legal) h.4
 
--- a whole request stays so with more bytes behind
+-- a whole request stays so when more bytes follow
 whole_stays : (bytes more rest : List ℕ) (request : Request) → IsFront bytes (whole request rest) →
     IsFront (bytes ++ more) (whole request (rest ++ more))
 whole_stays bytes more rest request is = final_stays bytes more (whole request rest) tt is
 
--- a transcript stays one with more bytes behind
+-- a transcript stays one when more bytes follow
 pub transcript_stays : (past after : Past) (bytes rest more : List ℕ) (told : List Told) →
     Follows past bytes told after rest → Follows past (bytes ++ more) told after (rest ++ more)
 transcript_stays past after bytes rest more [] h = (h.0, ap (λ (bs : List ℕ). bs ++ more) h.1)
@@ -217,7 +220,7 @@ closing_goes_nowhere : (close : Bool) (more : List Told) → close ≡ true →
 closing_goes_nowhere true more is ends = ends
 closing_goes_nowhere false more is ends = cc
 
--- behind a transcript whose last request asks for closing no other goes on
+-- after a transcript whose last request asks for closing no other goes on
 closed_goes_nowhere : (past later : Past) (bytes left : List ℕ) (told more : List Told) →
     closes told ≡ true → Follows past bytes (told ++ more) later left → more ≡ []
 closed_goes_nowhere past later bytes left [] more is f = cc

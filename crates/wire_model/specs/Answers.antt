@@ -1,12 +1,12 @@
--- The answers to requests as responses with bodies of JSON (RFC 8259), the members of each object in
--- the byte order of their names.
+-- The answers to requests as responses with bodies of JSON (RFC 8259), the members of each object
+-- in the byte order of their names.
 use Rattle.std.specs.Prelude.{ℕ, Bool, true, false, not, ◌==◌, ◌||◌, List, map, codes, Option, Some, None, if◌then◌else◌}
 use Rattle.serde_json.specs.Data.{Data, null, boolean, unsigned, number, string, array, object, Members, no_members, member}
 use Rattle.serde_json.specs.View.{items_of}
 use Rattle.serde_json.specs.Written.{compact_text}
 use Rattle.http_model.specs.declared.status.StatusCode.{StatusCode}
 use Rattle.http_model.specs.declared.status.StatusCode.TheVariants as statuses
-use Rattle.http_model.specs.Responses.{Response}
+use Rattle.http_model.specs.Responses.{Response, status_number}
 use Rattle.civil_time.specs.TimeText.{time_text}
 use Rattle.public_view.specs.declared.card.Card.{Card}
 use Rattle.site_types.specs.Refusal.{refusal_number, refusal_name, refusal_carried}
@@ -82,7 +82,8 @@ reply_data entry (replies.Ticked unpublished published dropped) =
     (member (codes "published") (wholes published)
     (member (codes "unpublished") (wholes unpublished) no_members))))
 reply_data entry (replies.Moderated status task) =
-    object (member (codes "entry") (whole entry) (member (codes "status") (string (status_text status))
+    object (member (codes "entry") (whole entry)
+    (member (codes "status") (string (status_text status))
     (member (codes "task") (whole task) no_members)))
 reply_data entry (replies.Published scheduled) =
     object (member (codes "entry") (whole entry)
@@ -141,13 +142,20 @@ error_data name = object (member (codes "error") (string name) no_members)
 -- the status with which a head is refused
 abbrev pub head_status : ℕ → StatusCode
 head_status status =
-    if status == 413
+    if status == status_number statuses.ContentTooLarge
     then statuses.ContentTooLarge
-    else if status == 431 then statuses.HeaderFieldsTooLarge else statuses.BadRequest
+    else if status == status_number statuses.HeaderFieldsTooLarge
+    then statuses.HeaderFieldsTooLarge
+    else statuses.BadRequest
+
+-- the name of the error of a head that is refused with this status
+abbrev pub refused_head : StatusCode → List ℕ
+refused_head statuses.BadRequest = codes "Head"
+refused_head _ = codes "TooLarge"
 
 -- the name of the error of a head that is refused
 abbrev pub head_error : ℕ → List ℕ
-head_error status = if status == 413 || status == 431 then codes "TooLarge" else codes "Head"
+head_error status = refused_head (head_status status)
 
 -- a response with this status and this body
 abbrev pub plain_response : StatusCode → Data → Response

@@ -1,17 +1,18 @@
 -- The exchange of one request: which answer it gets after a history, and what that adds to it.
-use Rattle.std.specs.Prelude.{ℕ, Bool, true, false, ◌+◌, List, [], ◌∷◌, ◌++◌, Option, Some, None, Result, Ok, Err, if◌then◌else◌}
+use Rattle.std.specs.Prelude.{ℕ, ◌+◌, List, [], ◌∷◌, ◌++◌, Option, Some, None, Result, Ok, Err, if◌then◌else◌}
 use Rattle.sha2.specs.Sha256.{sha256}
 use Rattle.site_types.specs.declared.command.Command.{Command}
-use Rattle.site_types.specs.declared.command.Command.TheVariants.{Create, Move, Delete, SetSlug, DefineUser, DefineGroup, Member, Grant}
 use Rattle.site_types.specs.declared.entry.Entry.{Entry}
 use Rattle.site_types.specs.declared.refusal.Refusal.{Refusal}
-use Rattle.site_types.specs.declared.refusal.Refusal.TheVariants.{NoPage}
+use Rattle.site_types.specs.declared.refusal.Refusal.TheVariants.{NoPage, LogFull}
 use Rattle.site_types.specs.declared.reply.Reply.{Reply}
-use Rattle.site_history.specs.History.{Tally, History, Item, accepted}
+use Rattle.site_history.specs.Log.{no_log}
+use Rattle.site_history.specs.History.{Tally, History, Item, Decider, accepted}
 use Rattle.site_history.specs.History as histories
 use Rattle.site_model.specs.World.{World}
 use Rattle.site_model.specs.Rights as rights
-use Rattle.site_model.specs.Step.{step}
+use Rattle.site_model.specs.Sound.{IsSound}
+use Rattle.site_model.specs.Step.{is_built, step}
 use Rattle.http_model.specs.Requests.{Request}
 use Rattle.public_view.specs.declared.card.Card.{Card}
 use Rattle.wire_model.specs.declared.answer.Answer.{Answer}
@@ -20,7 +21,7 @@ use Rattle.wire_model.specs.declared.call.Call.{Call}
 use Rattle.wire_model.specs.declared.call.Call.TheVariants.{Run, Page, Public}
 use Rattle.wire_model.specs.declared.call.RouteFault.{RouteFault}
 use Rattle.wire_model.specs.declared.call.RouteFault.TheVariants as faults
-use Rattle.wire_model.specs.Cards.{card_of}
+use Rattle.sight_model.specs.Cards.{card_of}
 use Rattle.wire_model.specs.Routes.{call_of}
 
 -- a history of the site
@@ -31,13 +32,17 @@ Past = History World Entry Reply
 abbrev pub number_of : Entry → ℕ
 number_of entry = entry.number
 
+-- how entries are decided: by the step of the world; nothing is written
+abbrev pub decider : Decider World Entry Reply Refusal
+decider = record { step = step; number_of = number_of; logging = no_log; log_full = LogFull }
+
 -- what a history comes to
 abbrev pub tally_of : Past → Tally World
-tally_of past = histories.tally_of step number_of past
+tally_of past = histories.tally_of decider past
 
--- a legal history
+-- a legal history: it starts with a sound world, and each of its entries was accepted as it stands
 abbrev pub IsLegal : Past → Type 0
-IsLegal past = histories.IsLegal step number_of past
+IsLegal past = histories.IsLegal decider IsSound past
 
 -- the history with these items at its end
 abbrev pub grown_by : Past → List (Item Entry Reply) → Past
@@ -47,20 +52,6 @@ grown_by past items = record { start = past.start; items = past.items ++ items }
 abbrev pub user_of : World → Option (List ℕ) → Option ℕ
 user_of world None = None
 user_of world (Some token) = rights.user_of (sha256 token) world.part.users
-
--- The commands that are built so far, whatever the world is. Each command that a request can ask
--- for is built (`RoutesAreBuilt` in Laws.antt), so that no request is told that its command is not:
--- what is not built yet has no route to it, and such a route is told of instead.
-abbrev pub is_built : Command → Bool
-is_built (Create parent slug content) = true
-is_built (Move page target position) = true
-is_built (Delete page) = true
-is_built (SetSlug page slug) = true
-is_built (DefineUser superuser digest) = true
-is_built DefineGroup = true
-is_built (Member user group on) = true
-is_built (Grant group page permission on) = true
-is_built _ = false
 
 -- the entry of a command by a user at a moment, with a number
 abbrev pub entry_of : ℕ → ℕ → Command → ℕ → Entry
@@ -84,9 +75,11 @@ decided entry (Err refusal) = telling (answers.Refused refusal)
 
 -- what an entry gets after a history
 abbrev pub entered : Tally World → Entry → Outcome
-entered tally entry = decided entry (histories.reply_of step number_of (step tally.world entry))
+entered tally entry = decided entry (histories.decide decider tally entry)
 
--- a command by a user at a moment
+-- A command by a user at a moment. Each that a request can ask for is built, so that no request is
+-- told that its command is not: what is not built yet has no route to it, and such a route is told
+-- of instead.
 abbrev pub run : Tally World → ℕ → ℕ → Command → Outcome
 run tally user moment command =
     if is_built command

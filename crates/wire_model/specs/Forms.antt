@@ -1,5 +1,5 @@
--- The forms of commands: the path of each form's route, and which command a body asks for there.
-use Rattle.std.specs.Prelude.{ℕ, Bool, ◌+◌, ◌-◌, ◌*◌, ◌==◌, List, [], ◌∷◌, ◌++◌, length, codes, Option, Some, None, option_map, option_and_then, bytes_eq, if◌then◌else◌}
+-- The forms of commands: which command a body asks for by each.
+use Rattle.std.specs.Prelude.{ℕ, Bool, ◌+◌, ◌-◌, ◌*◌, ◌==◌, List, [], ◌∷◌, map, length, codes, Option, Some, None, option_map, option_and_then, if◌then◌else◌}
 use Rattle.std.specs.Str.{is_utf8}
 use Rattle.serde_json.specs.Data.{Data}
 use Rattle.serde_json.specs.Find.{get, as_str}
@@ -10,66 +10,31 @@ use Rattle.site_types.specs.Content.{ContentValue}
 use Rattle.site_types.specs.declared.command.Command.{Command}
 use Rattle.site_ids.specs.declared.digest.TheConstants.{DIGEST_BYTES}
 use Rattle.site_ids.specs.declared.ids.TheConstants.{LAST_USER_ID, LAST_GROUP_ID}
-use Rattle.site_types.specs.declared.command.Command.TheVariants.{Create, Move, Delete, SetSlug, DefineUser, DefineGroup, Member, Grant}
+use Rattle.site_types.specs.declared.command.Command.TheVariants.{Create, Move, Delete, SetSlug, Detach, OpenDesk, ShutDesk, Publish, Unpublish, Unschedule, Lock, Unlock, Purge, Submit, Approve, Reject, Cancel, DefineUser, DefineGroup, Member, Grant}
 use Rattle.site_types.specs.declared.permission.Permission.{Permission}
-use Rattle.site_types.specs.declared.permission.Permission.TheVariants.{Add, Change, Publish, BulkDelete, Lock, Unlock}
 use Rattle.site_types.specs.declared.position.Position.{Position}
-use Rattle.site_types.specs.declared.position.Position.TheVariants.{FirstChild, LastChild, FirstSibling, Left, Right, LastSibling}
 use Rattle.wire_model.specs.declared.form.CommandForm.{CommandForm}
 use Rattle.wire_model.specs.declared.form.CommandForm.TheVariants as forms
-use Rattle.wire_model.specs.declared.words.TheConstants.{API_FRONT}
+use Rattle.wire_model.specs.declared.form.PageVerb.{PageVerb}
+use Rattle.wire_model.specs.declared.form.PageVerb.TheVariants as verbs
+use Rattle.wire_model.specs.declared.names.TheConstants.{POSITIONS, PERMISSIONS}
+use Rattle.wire_model.specs.Tables.{named}
 
--- the first of these values whose name is this text
-abbrev pub named : {A : Type 0} → (A → List ℕ) → List A → List ℕ → Option A
-named name_of [] text = None
-named name_of (a ∷ others) text =
-    if bytes_eq text (name_of a) then Some a else named name_of others text
-
--- the forms of commands whose routes are built
-abbrev pub all_forms : List CommandForm
-all_forms =
-    forms.Create ∷ forms.Move ∷ forms.Delete ∷ forms.SetSlug
-    ∷ forms.DefineUser ∷ forms.DefineGroup ∷ forms.Member ∷ forms.Grant ∷ []
-
--- what stands behind `/api/` in the path of a form's route
-abbrev pub form_name : CommandForm → List ℕ
-form_name forms.Create = codes "pages"
-form_name forms.Move = codes "move"
-form_name forms.Delete = codes "delete"
-form_name forms.SetSlug = codes "slug"
-form_name forms.DefineUser = codes "users"
-form_name forms.DefineGroup = codes "groups"
-form_name forms.Member = codes "members"
-form_name forms.Grant = codes "grants"
-
--- the path of a form's route
-abbrev pub form_path : CommandForm → List ℕ
-form_path form = API_FRONT.now ++ form_name form
-
--- the text that a body is: no bytes are read as an empty object
+-- the text of a body: no bytes are read as an empty object
 abbrev pub text_of_body : List ℕ → List ℕ
 text_of_body body = if length body == 0 then codes "{}" else body
 
--- the JSON that a body is, where it is any
+-- the JSON of a body, if it is any
 abbrev pub data_of : List ℕ → Option Data
 data_of body = if is_utf8 body then read (text_of_body body) else None
 
--- every position
-abbrev pub all_positions : List Position
-all_positions = FirstChild ∷ LastChild ∷ FirstSibling ∷ Left ∷ Right ∷ LastSibling ∷ []
+-- the positions by their texts
+abbrev pub positions : List (List ℕ × Position)
+positions = map (λ row. (row.0.now, row.1)) POSITIONS
 
--- the text of a position
-abbrev pub position_text : Position → List ℕ
-position_text FirstChild = codes "first-child"
-position_text LastChild = codes "last-child"
-position_text FirstSibling = codes "first-sibling"
-position_text Left = codes "left"
-position_text Right = codes "right"
-position_text LastSibling = codes "last-sibling"
-
--- a position: a text that is one's
+-- a position: a text that names one
 abbrev pub position_of : Data → Option Position
-position_of value = option_and_then (named position_text all_positions) (as_str value)
+position_of value = option_and_then (named positions) (as_str value)
 
 -- the id of a page at a member
 abbrev pub id_at : List ℕ → Data → Option ℕ
@@ -87,24 +52,13 @@ content_at value = option_and_then content_of (get (codes "content") value)
 abbrev pub position_at : Data → Option Position
 position_at value = option_and_then position_of (get (codes "position") value)
 
--- every permission
-abbrev pub all_permissions : List Permission
-all_permissions = Add ∷ Change ∷ Publish ∷ BulkDelete ∷ Lock ∷ Unlock ∷ []
+-- the permissions by their texts
+abbrev pub permissions : List (List ℕ × Permission)
+permissions = map (λ row. (row.0.now, row.1)) PERMISSIONS
 
--- the text of a permission
-abbrev pub permission_text : Permission → List ℕ
-permission_text Add = codes "add"
-permission_text Change = codes "change"
-permission_text Publish = codes "publish"
-permission_text BulkDelete = codes "bulk_delete"
-permission_text Lock = codes "lock"
-permission_text Unlock = codes "unlock"
-
--- the permission at the member permission: a text that is one's
+-- the permission at the member permission: a text that names one
 abbrev pub permission_at : Data → Option Permission
-permission_at value =
-    option_and_then (named permission_text all_permissions)
-    (text_at (codes "permission") value)
+permission_at value = option_and_then (named permissions) (text_at (codes "permission") value)
 
 -- the truth value at a member
 abbrev pub truth_at : List ℕ → Data → Option Bool
@@ -165,11 +119,28 @@ move_in value =
     then move_of (id_at (codes "page") value) (id_at (codes "target") value) (position_at value)
     else None
 
--- the deletion that an object asks for: it has exactly the member page
-abbrev pub deletion_in : Data → Option Command
-deletion_in value =
+-- the command of a verb on a page
+abbrev pub command_on : PageVerb → ℕ → Command
+command_on verbs.Delete page = Delete page
+command_on verbs.Detach page = Detach page
+command_on verbs.OpenDesk page = OpenDesk page
+command_on verbs.ShutDesk page = ShutDesk page
+command_on verbs.Publish page = Publish page
+command_on verbs.Unpublish page = Unpublish page
+command_on verbs.Unschedule page = Unschedule page
+command_on verbs.Lock page = Lock page
+command_on verbs.Unlock page = Unlock page
+command_on verbs.Purge page = Purge page
+command_on verbs.Submit page = Submit page
+command_on verbs.Approve page = Approve page
+command_on verbs.Reject page = Reject page
+command_on verbs.Cancel page = Cancel page
+
+-- the command of a verb that an object asks for: it has exactly the member page
+abbrev pub page_command_in : PageVerb → Data → Option Command
+page_command_in verb value =
     if has_exactly (codes "page" ∷ []) value
-    then option_map Delete (id_at (codes "page") value)
+    then option_map (command_on verb) (id_at (codes "page") value)
     else None
 
 -- the change of this page's slug to this one
@@ -230,8 +201,8 @@ grant_in value =
 abbrev pub command_in : CommandForm → Data → Option Command
 command_in forms.Create value = creation_in value
 command_in forms.Move value = move_in value
-command_in forms.Delete value = deletion_in value
 command_in forms.SetSlug value = slug_change_in value
+command_in (forms.OnPage verb) value = page_command_in verb value
 command_in forms.DefineUser value = user_definition_in value
 command_in forms.DefineGroup value = group_definition_in value
 command_in forms.Member value = membership_in value

@@ -1,15 +1,16 @@
 -- The laws of transcripts, each proved in src/laws.rt.
 use Rattle.std.specs.Prelude.{◌≡◌, ℕ, ◌≤◌, List, ◌++◌, length, Option, IsSome, IsTrue, Ok}
 use Rattle.site_types.specs.declared.command.Command.{Command}
-use Rattle.site_model.specs.Laws.{FitsCaller}
+use Rattle.site_model.specs.Laws.{FitsCommand}
+use Rattle.site_model.specs.Step.{is_built}
 use Rattle.http_model.specs.Requests.{Request, whole, IsFront}
 use Rattle.wire_model.specs.declared.call.Call.TheVariants.{Run}
 use Rattle.wire_model.specs.Routes.{call_of}
-use Rattle.wire_model.specs.Exchange.{Past, IsLegal, is_built}
+use Rattle.wire_model.specs.Exchange.{Past, IsLegal}
 use Rattle.wire_model.specs.Transcript.{Told, Follows, HasMoments, closes}
 
--- a transcript stays one with more bytes behind, which come behind what was left; so it makes no
--- difference in which pieces the bytes come
+-- A transcript stays one when more bytes follow, which then follow what was left; so it makes no
+-- difference in which pieces the bytes come.
 abbrev pub TranscriptStays : Type 0
 TranscriptStays =
     (past after : Past) (bytes rest more : List ℕ) (told : List Told) →
@@ -49,7 +50,7 @@ OneTranscript =
 abbrev pub AsksNothing : List ℕ → Type 0
 AsksNothing bytes = (request : Request) (rest : List ℕ) → IsFront bytes (whole request rest) → ⊥
 
--- where no request is left at the end of a transcript, no other of the same bytes is longer
+-- if no request is left at the end of a transcript, no other of the same bytes is longer
 abbrev pub NothingAskedIsLast : Type 0
 NothingAskedIsLast =
     (coming : ℕ → Option ℕ) (place : ℕ) (past after later : Past) (bytes rest left : List ℕ)
@@ -60,7 +61,7 @@ NothingAskedIsLast =
     AsksNothing rest →
     length other ≤ length told
 
--- where the last request of a transcript asks for closing, no other of the same bytes is longer
+-- if the last request of a transcript asks for closing, no other of the same bytes is longer
 abbrev pub ClosingIsLast : Type 0
 ClosingIsLast =
     (coming : ℕ → Option ℕ) (place : ℕ) (past after later : Past) (bytes rest left : List ℕ)
@@ -77,8 +78,9 @@ RoutesAreBuilt =
     (request : Request) (command : Command) →
     call_of request ≡ Ok (Run command) → IsTrue (is_built command)
 
--- the slug of each command that a request can ask for is by the rule of slugs
-abbrev pub RoutesGiveSlugs : Type 0
-RoutesGiveSlugs =
+-- each command that a request can ask for fits: its slug is by the rule of slugs, its content is
+-- within its limits, and its digest has its bytes
+abbrev pub RoutesFit : Type 0
+RoutesFit =
     (request : Request) (command : Command) →
-    call_of request ≡ Ok (Run command) → FitsCaller command
+    call_of request ≡ Ok (Run command) → FitsCommand command

@@ -1,24 +1,23 @@
 -- The transcript: requests at the front of the bytes, one after another, with their moments and
--- answers, and its text.
+-- answers, and its text. How many answers a connection gives at most is a parameter.
 use Rattle.std.specs.Prelude.{◌≡◌, ℕ, ◌+◌, ◌==◌, ◌||◌, Bool, true, false, List, [], ◌∷◌, ◌++◌, Option, IfSome}
 use Rattle.http_model.specs.Requests.{Request, whole, IsFront}
 use Rattle.http_model.specs.Responses.{response_text}
 use Rattle.wire_model.specs.declared.answer.Answer.{Answer}
-use Rattle.wire_model.specs.declared.words.TheConstants.{ANSWER_LIMIT}
 use Rattle.wire_model.specs.Answers.{response_of}
 use Rattle.wire_model.specs.Exchange.{Past, Outcome, exchange, tally_of, grown_by}
 
--- One request with the moment at which it was read, and its answer.
+-- A request that was answered: the moment at which it was read, and its answer.
 pub record Told : Type 0 where
   pub request : Request
   pub moment : ℕ
   pub answer : Answer
 
--- what a request that was told comes to after a history
+-- what a request with its moment comes to after a history
 abbrev pub outcome : Past → Told → Outcome
 outcome past told = exchange (tally_of past) told.request told.moment
 
--- the history after a request that was told
+-- the history after a request with its moment
 abbrev pub after_told : Past → Told → Past
 after_told past told = grown_by past (outcome past told).added
 
@@ -43,7 +42,7 @@ closes [] = false
 closes (told ∷ []) = told.request.close
 closes (told ∷ next ∷ more) = closes (next ∷ more)
 
--- The moments are those that a clock gives, one for each request, where it tells them.
+-- The moments are those that a clock gives, one for each request, if the clock gives any.
 abbrev pub HasMoments : (ℕ → Option ℕ) → ℕ → List Told → Type 0
 HasMoments coming place [] = Unit {0}
 HasMoments coming place (told ∷ more) =
@@ -53,17 +52,17 @@ HasMoments coming place (told ∷ more) =
 abbrev pub answer_text : Answer → Bool → List ℕ
 answer_text answer last = response_text (response_of answer) last
 
--- whether the connection ends after this request, which so many were answered before: it asks for
--- closing, or reaches the limit of requests
-abbrev pub is_last : ℕ → Request → Bool
-is_last count request = request.close || (count + 1 == ANSWER_LIMIT)
+-- Whether the connection ends after this request, when so many were answered before it: the request
+-- asks for closing, or its answer is the last of the limit.
+abbrev pub is_last : ℕ → ℕ → Request → Bool
+is_last limit count request = request.close || (count + 1 == limit)
 
--- the text of answers behind so many others
-abbrev pub text_behind : ℕ → List Told → List ℕ
-text_behind count [] = []
-text_behind count (told ∷ more) =
-    answer_text told.answer (is_last count told.request) ++ text_behind (count + 1) more
+-- the text of answers when so many were given before them, of at most the limit
+abbrev pub text_from : ℕ → ℕ → List Told → List ℕ
+text_from limit count [] = []
+text_from limit count (told ∷ more) =
+    answer_text told.answer (is_last limit count told.request) ++ text_from limit (count + 1) more
 
--- the text of a transcript: the responses, one after another
-abbrev pub text_of : List Told → List ℕ
-text_of told = text_behind 0 told
+-- the text of a transcript of at most so many answers: the responses, one after another
+abbrev pub text_of : ℕ → List Told → List ℕ
+text_of limit told = text_from limit 0 told

@@ -3,14 +3,14 @@ use http_model::Allow;
 use public_view::Card;
 use site_types::{Refusal, Reply};
 
-/// What a request is answered.
+/// The answer to a request.
 #[derive(Debug, Drop)]
 pub enum Answer {
     /// The command was accepted as the entry with this number.
     Accepted(u64, Reply),
     /// The card of a page.
     Page(Card),
-    /// The command was refused, or what is read is not there.
+    /// The command was refused, or the page that is read does not exist.
     Refused(Refusal),
     /// The path has no route, or no page that everybody may read.
     NotFound,
@@ -18,12 +18,12 @@ pub enum Answer {
     NotBuilt,
     /// The route takes another method, this one.
     Method(Allow),
-    /// The request is not of its route's form.
+    /// The request is not of the route's form.
     Form,
-    /// No user is known by the token, or there is none.
+    /// The request has no token, or no user has it.
     NoUser,
-    /// What stands at the front of the input is no request: 400, 413 or 431. The connection ends.
+    /// The front of the input is no request: 400, 413 or 431. The connection ends.
     Head(u16),
-    /// Memory was refused, and nothing was done.
+    /// The memory ran out, and nothing was done.
     Memory,
 }

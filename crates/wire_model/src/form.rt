@@ -1,4 +1,4 @@
-//! The forms of commands: each has a route of its own.
+//! The forms of commands: what the body of a request to a command's route is read as.
 
 /// What the body of a request to a command's route is read as.
 #[derive(Clone, Copy, Debug, PartialEq, Eq)]
@@ -7,10 +7,10 @@ pub enum CommandForm {
     Create,
     /// A move of a page: page, position and target.
     Move,
-    /// The deletion of a page: page.
-    Delete,
     /// Another slug for a page: page and slug.
     SetSlug,
+    /// A command on a page that nothing else is named for: page.
+    OnPage(PageVerb),
     /// The definition of a user: digest and superuser.
     DefineUser,
     /// The definition of a group: no members.
@@ -19,4 +19,44 @@ pub enum CommandForm {
     Member,
     /// A grant that is given or withdrawn: group, on, page and permission.
     Grant,
+}
+
+/// The commands whose bodies name a page alone, `{"page":N}`.
+#[derive(Clone, Copy, Debug, PartialEq, Eq)]
+pub enum PageVerb {
+    /// The page is deleted with its descendants.
+    Delete,
+    /// The page, an alias, becomes a regular page.
+    Detach,
+    /// The caller opens a desk on the page.
+    OpenDesk,
+    /// The caller's desk on the page is given up.
+    ShutDesk,
+    /// The newest revision of the page is published, or scheduled.
+    Publish,
+    /// The page is taken out of the public.
+    Unpublish,
+    /// The schedule of the page is emptied.
+    Unschedule,
+    /// The page is locked for the caller.
+    Lock,
+    /// The page is unlocked.
+    Unlock,
+    /// The revisions of the page go that nothing needs.
+    Purge,
+    /// The newest revision of the page is submitted for moderation.
+    Submit,
+    /// The current task of the page's moderation is approved.
+    Approve,
+    /// The current task of the page's moderation is rejected.
+    Reject,
+    /// The page's moderation is given up.
+    Cancel,
+}
+
+/// What is read of the page that the last part of a path names.
+#[derive(Clone, Copy, Debug, PartialEq, Eq)]
+pub enum ReadForm {
+    /// The card of the page.
+    Card,
 }

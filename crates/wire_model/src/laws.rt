@@ -1,7 +1,7 @@
 //! Laws of transcripts. Each is a function that does nothing: its contract is the law.
-ghost use Rattle.wire_model.specs.Laws.{TranscriptStays, TranscriptKeepsLegal, LongerBeginsWithShorter, OneTranscript, NothingAskedIsLast, ClosingIsLast, RoutesAreBuilt, RoutesGiveSlugs};
+ghost use Rattle.wire_model.specs.Laws.{TranscriptStays, TranscriptKeepsLegal, LongerBeginsWithShorter, OneTranscript, NothingAskedIsLast, ClosingIsLast, RoutesAreBuilt, RoutesFit};
 
-/// A transcript stays one with more bytes behind.
+/// A transcript stays one when more bytes follow.
 pub fn transcript_stays()
     ensures { TranscriptStays }
 {}
@@ -21,12 +21,12 @@ pub fn one_transcript()
     ensures { OneTranscript }
 {}
 
-/// Where no request is left at the end of a transcript, no other is longer.
+/// If no request is left at the end of a transcript, no other is longer.
 pub fn nothing_asked_is_last()
     ensures { NothingAskedIsLast }
 {}
 
-/// Where the last request asks for closing, no other transcript is longer.
+/// If the last request asks for closing, no other transcript is longer.
 pub fn closing_is_last()
     ensures { ClosingIsLast }
 {}
@@ -36,7 +36,7 @@ pub fn routes_are_built()
     ensures { RoutesAreBuilt }
 {}
 
-/// The slug of each command that a request can ask for is by the rule of slugs.
-pub fn routes_give_slugs()
-    ensures { RoutesGiveSlugs }
+/// Each command that a request can ask for fits.
+pub fn routes_fit()
+    ensures { RoutesFit }
 {}

@@ -1,15 +1,19 @@
-use Rattle.std.proofs.Common.{◌∙◌, sym}
-use Rattle.api_routes.proofs.RouteLemmas.{refs-route, desks-route, bytes-beside}
+-- A path that is not UTF-8 is no path of commands.
+use Rattle.std.proofs.Common.{List, ℕ, Option, ap, sym, ◌∙◌}
+use Rattle.std.specs.Prelude.{unwrap_or}
+use Rattle.wire_model.specs.Routes.{Route, beside}
+use Rattle.api_routes.proofs.RouteLemmas.{bytes-route}
 use Rattle.api_routes.proofs.path.route_of_bytes.Goals as goal
 
--- src/path.rt:80:9
-pub returns-then-has_part_behind-2 : goal.returns-then-has_part_behind-2
-returns-then-has_part_behind-2 c = sym (refs-route c.args.path.now (cc))
+pub returns-in-Some : goal.returns-in-Some
+returns-in-Some c =
+    let path : List ℕ = c.args.path.now in
+    ap (λ (o : Option Route). unwrap_or o (beside path)) c.in-Some.ensures
+    ∙ sym (bytes-route path c.requires)
 
--- src/path.rt:86:9
-pub returns-then-has_part_behind-3 : goal.returns-then-has_part_behind-3
-returns-then-has_part_behind-3 c = sym (desks-route c.args.path.now (cc))
-
--- src/path.rt:75:1
-pub returns : goal.returns
-returns c = c.beside_routes.ensures ∙ sym (bytes-beside c.args.path.now c.requires (cc) (cc) (cc))
+pub returns-in-None : goal.returns-in-None
+returns-in-None c =
+    let path : List ℕ = c.args.path.now in
+    c.beside_routes.ensures
+    ∙ ap (λ (o : Option Route). unwrap_or o (beside path)) c.in-None.ensures
+    ∙ sym (bytes-route path c.requires)

@@ -1,8 +1,13 @@
-use Rattle.std.proofs.Common.{◌≡◌, drop}
+use Rattle.std.proofs.Common.{◌≡◌, length, map}
 use Rattle.api_routes.specs.Router.{with_commands}
 use Rattle.api_routes.proofs.router.add_commands.Given as goal
 
--- what is left to be added to the routes so far makes all of them
-abbrev pub invariant-loop-form : goal.invariant-loop-form
-invariant-loop-form l =
-    with_commands (drop l.form-index l.fn.forms) l.router ≡ with_commands l.fn.forms l.fn.router
+-- what is left of the table makes of the routes so far what the whole makes of those at first
+abbrev pub invariant-loop-table : goal.invariant-loop-table
+invariant-loop-table l =
+    with_commands (map (λ row. (row.0.now, row.1)) l.table) l.router
+    ≡ with_commands (map (λ row. (row.0.now, row.1)) l.initial.table) l.fn.router
+
+-- the table gets shorter
+abbrev pub decreases-loop-table : goal.decreases-loop-table
+decreases-loop-table l = length l.table

@@ -1,10 +1,18 @@
--- The page may be taken away, and it is left to see whether it has kids.
-use Rattle.grants.proofs.NeedLemmas.{deletion_is}
+-- A need to take the page away, and else one to take kids along.
+use Rattle.std.proofs.Common.{[], ◌∷◌}
+use Rattle.site_model.specs.Needs as needs
+use Rattle.grants.proofs.NeedLemmas.{some_of, rest_of, only_is}
 use Rattle.grants.proofs.need.delete_need.Goals as goal
 
+pub returns-in-Some : goal.returns-in-Some
+returns-in-Some c world stands =
+    some_of (needs.take_need world c.args.user c.args.page
+    ∷ needs.live_need world c.args.user c.args.page c.args.page ∷ []) _ c.in-Some.number
+    (c.in-Some.ensures world stands)
+
 pub returns-in-None : goal.returns-in-None
-returns-in-None c world ready =
-    let held = c.held-held.ensures world ready.stands.pages ready.reached.sound ready.stands.lists
-    in
-    deletion_is world c.args.user c.args.page c.bulk_need.result ready.reached.drafts
-    (c.in-None.ensures world ready held) (c.bulk_need.ensures world ready held)
+returns-in-None c world stands =
+    rest_of (needs.take_need world c.args.user c.args.page
+    ∷ needs.live_need world c.args.user c.args.page c.args.page ∷ []) _ c.bulk_need.result
+    (c.in-None.ensures world stands)
+    (only_is _ c.bulk_need.result (c.bulk_need.ensures world stands))

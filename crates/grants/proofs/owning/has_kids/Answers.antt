@@ -4,5 +4,5 @@ use Rattle.grants.proofs.owning.has_kids.Goals as goal
 
 pub returns : goal.returns
 returns c tree same =
-    row_kids 0 c.args.rows.now.pages c.len-len.ensures.pages tree same c.args.page
-    c.in-Some.row.now c.in-Some.ensures
+    row_kids c.args.rows.now.pages c.len-len.ensures.pages tree same c.args.page c.in-Some.row.now
+    c.in-Some.ensures

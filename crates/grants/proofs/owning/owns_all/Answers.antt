@@ -6,5 +6,5 @@ use Rattle.grants.proofs.owning.owns_all.Goals as goal
 pub returns : goal.returns
 returns c tree same =
     c.own_rows.ensures
-    ∙ range_owned c.args.user c.args.rows.now.pages c.len-len.ensures.pages tree same c.args.page
+    ∙ range_owned c.args.rows.now.pages c.len-len.ensures.pages tree same c.args.page c.args.user
     c.in-Some.place c.in-Some.count c.requires c.in-Some.ensures.range

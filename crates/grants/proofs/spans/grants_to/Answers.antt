@@ -3,7 +3,7 @@ use Rattle.std.proofs.Common.{Bool, ◌&&◌, cond, nat_eq, nat_lt, nat_le, take
 use Rattle.std.proofs.lemmas.List.{take_rest}
 use Rattle.std.proofs.lemmas.List.Sorted.{IsPartitionPoint-from_clause}
 use Rattle.site_types.specs.declared.world_rows.Grant.{Grant}
-use Rattle.site_model.specs.UserSound.{KeysRise}
+use Rattle.site_model.specs.Sound.{KeysRise}
 use Rattle.site_model.specs.Users.{grant_key}
 use Rattle.grants.proofs.SpanLemmas.{parted, rest_rises, span_is, lower_pair, lower_or_same_pair, between_pair}
 use Rattle.grants.proofs.spans.grants_to.Goals as goal

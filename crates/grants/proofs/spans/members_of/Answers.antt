@@ -3,7 +3,7 @@ use Rattle.std.proofs.Common.{nat_eq, nat_lt, nat_le, take, drop, length, â—Œ-â—
 use Rattle.std.proofs.lemmas.List.{take_rest}
 use Rattle.std.proofs.lemmas.List.Sorted.{IsPartitionPoint-from_clause}
 use Rattle.site_types.specs.declared.world_rows.Member.{Member}
-use Rattle.site_model.specs.UserSound.{KeysRise}
+use Rattle.site_model.specs.Sound.{KeysRise}
 use Rattle.site_model.specs.Users.{member_key}
 use Rattle.grants.proofs.SpanLemmas.{parted, rest_rises, span_is, lower_first, lower_or_same, between_is}
 use Rattle.grants.proofs.spans.members_of.Goals as goal

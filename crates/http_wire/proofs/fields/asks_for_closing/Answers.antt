@@ -1,4 +1,4 @@
--- The fields ask for closing where the first does, or one behind it.
+-- The fields ask for closing where the first does, or one after it.
 use Rattle.std.proofs.Common.{◌∙◌, sym, ap, map, drop, ◌+◌}
 use Rattle.std.specs.Prelude.{◌||◌}
 use Rattle.httparse.specs.Spans.{header_bytes}

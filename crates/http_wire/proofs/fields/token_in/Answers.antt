@@ -11,7 +11,7 @@ take_as value k is =
     let same : k ≡ min 6 (length value) = omega arith in
     ap (λ m. take m value) same ∙ take_min 6 value
 
--- the bytes behind them
+-- the bytes after them
 drop_as : (value : List ℕ) (k : ℕ) → k ≡ min (length value) 6 → drop k value ≡ drop 6 value
 drop_as value k is =
     let same : k ≡ min 6 (length value) = omega arith in

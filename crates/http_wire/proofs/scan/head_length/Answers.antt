@@ -1,4 +1,4 @@
--- The search goes on behind each byte that does not begin the end of the head.
+-- The search goes on after each byte that does not begin the end of the head.
 use Rattle.std.proofs.Common.{◌∙◌, ◌+◌, sym, ap}
 use Rattle.std.proofs.lemmas.Bool.{eq-eqb, ne_eqb}
 use Rattle.std.proofs.lemmas.List.{take_rest}

@@ -2,7 +2,7 @@ use Rattle.std.proofs.Common.{◌≡◌, length}
 use Rattle.http_model.specs.Fields.{skip_spaces}
 use Rattle.http_wire.proofs.words.skip_spaces.Given as goal
 
--- what is left has the same bytes behind its spaces
+-- what is left has the same bytes after its spaces
 abbrev pub invariant-loop-bytes : goal.invariant-loop-bytes
 invariant-loop-bytes l = skip_spaces l.bytes ≡ skip_spaces l.fn.bytes
 

@@ -2,7 +2,7 @@ use Rattle.std.proofs.Common.{◌≡◌, length}
 use Rattle.httparse.specs.Grammar.{skip_ows}
 use Rattle.http_wire.proofs.words.trim_start.Given as goal
 
--- what is left has the same bytes behind its blanks
+-- what is left has the same bytes after its blanks
 abbrev pub invariant-loop-bytes : goal.invariant-loop-bytes
 invariant-loop-bytes l = skip_ows l.bytes ≡ skip_ows l.fn.bytes
 

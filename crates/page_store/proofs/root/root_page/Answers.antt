@@ -7,6 +7,7 @@ pub returns : goal.returns
 returns c = record {
   id_is = c.root-2.ensures;
   no_parent = refl;
+  not_counted = refl;
   path_is = c.in-Some.ensures.1 ∙ c.as_slice.ensures.value ∙ c.text.ensures.value ∙ ap path_text
       c.root.ensures;
   depth_is = refl;

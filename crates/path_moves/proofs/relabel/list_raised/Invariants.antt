@@ -1,6 +1,6 @@
 -- The rows so far that do not move are listed.
 use Rattle.std.proofs.Common.{◌≡◌, ◌++◌, map, length}
-use Rattle.path_moves.specs.Cuts.{other_rows}
+use Rattle.tree_rows.specs.Cuts.{other_rows}
 use Rattle.path_moves.specs.Spots.{rows_between, raised_pair}
 use Rattle.path_moves.proofs.relabel.list_raised.Given as goal
 

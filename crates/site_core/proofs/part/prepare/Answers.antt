@@ -1,13 +1,19 @@
--- No other command is built.
-use Rattle.site_core.proofs.PrepareLemmas.{other_command, same_itself}
+-- Each command is prepared with its group.
+use Rattle.std.proofs.Common.{sym, ◌∙◌}
+use Rattle.site_core.proofs.GroupLemmas.{tree_grouped}
 use Rattle.site_core.proofs.part.prepare.Goals as goal
 
-pub returns-in_default : goal.returns-in_default
-returns-in_default c = record {
-  same = same_itself c.args.part.now;
-  plan = λ world ready fits.
-      other_command world c.args.now c.args.caller c.args.command.now c.in_default.not-Create
-      c.in_default.not-Move c.in_default.not-Delete c.in_default.not-SetSlug
-      c.in_default.not-DefineUser c.in_default.not-DefineGroup c.in_default.not-Member
-      c.in_default.not-Grant;
-}
+pub prepare_tree-requires-clause-tree : goal.prepare_tree-requires-clause-tree
+prepare_tree-requires-clause-tree c =
+    tree_grouped c.args.command.now (sym c.group_of.ensures ∙ c.in-Tree.is)
+
+pub returns-in-Tree-clause-plan : goal.returns-in-Tree-clause-plan
+returns-in-Tree-clause-plan c = λ world ready fits.
+    c.prepare_tree.ensures.plan world _ ready fits
+
+pub returns-in-People-clause-plan : goal.returns-in-People-clause-plan
+returns-in-People-clause-plan c = λ world ready fits.
+    c.prepare_people.ensures.plan world _ ready
+
+pub returns-in-Later-clause-plan : goal.returns-in-Later-clause-plan
+returns-in-Later-clause-plan c = λ world ready fits. c.refuse.ensures world _ c.args.now ready

@@ -1,6 +1,7 @@
 -- One less is always possible, and one more where there is room.
 use Rattle.std.proofs.Common.{not, ◌≡◌, nat_lt, length, sym, subst}
-use Rattle.site_model.specs.Users.{MAX_GRANTS, grants_after}
+use Rattle.site_model.specs.Limits.{MAX_GRANTS}
+use Rattle.site_model.specs.Users.{grants_after}
 use Rattle.site_core.proofs.PeopleRights.{room_told, room_less}
 use Rattle.site_core.proofs.people.has_room.Goals as goal
 

@@ -5,14 +5,14 @@ use Rattle.site_core.proofs.PeoplePlans.{group_full, group_planned}
 use Rattle.site_core.proofs.people.plan_group.Goals as goal
 
 pub returns-then-count-ge-LAST_GROUP_ID-clause-plan : goal.returns-then-count-ge-LAST_GROUP_ID-clause-plan
-returns-then-count-ge-LAST_GROUP_ID-clause-plan c = λ world caller allowed.
-    group_full c.args.part.now world c.args.now caller allowed
+returns-then-count-ge-LAST_GROUP_ID-clause-plan c = λ world desk caller allowed.
+    group_full c.args.part.now world desk c.args.now caller allowed
     (subst (λ n. LAST_GROUP_ID ≤ n) c.group_count-count.ensures.value
     c.if-count-ge-LAST_GROUP_ID.true)
 
 pub returns-clause-plan : goal.returns-clause-plan
-returns-clause-plan c = λ world caller allowed.
-    group_planned c.args.part.now world c.args.now caller allowed c.ready_plan.new.part
+returns-clause-plan c = λ world desk caller allowed.
+    group_planned c.args.part.now world desk c.args.now caller allowed c.ready_plan.new.part
     c.ready_plan.ensures.same
     (subst (λ n. n < LAST_GROUP_ID) c.group_count-count.ensures.value
     c.if-count-ge-LAST_GROUP_ID.false)

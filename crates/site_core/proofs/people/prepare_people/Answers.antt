@@ -1,16 +1,24 @@
--- The page first, then the caller's rights, and then the rest.
+-- The first rules are tried, and then the command is planned.
 use Rattle.std.proofs.Common.{sym, ◌∙◌}
-use Rattle.site_core.proofs.PeopleRights.{refused_missing, names_pages, refused_denied}
+use Rattle.grants.proofs.FrontLemmas.{no_moderation, passed, refused}
+use Rattle.grants.proofs.StepLemmas.{front_refuses}
 use Rattle.site_core.proofs.people.prepare_people.Goals as goal
 
-pub returns-in-Some-clause-plan : goal.returns-in-Some-clause-plan
-returns-in-Some-clause-plan c = λ world ready.
-    refused_missing world c.args.now c.args.caller c.in-Some.page c.args.command.now
-    (sym (c.missing_page.ensures world ready) ∙ c.in-Some.is)
+pub front-requires : goal.front-requires
+front-requires c = (c.requires.ready.0, c.requires.ready.1.stands)
+
+pub returns-in-Ok-clause-plan : goal.returns-in-Ok-clause-plan
+returns-in-Ok-clause-plan c = λ world desk ready.
+    c.plan_people.ensures.plan world desk c.args.caller (record {
+      ready = ready;
+      front = passed _ (sym c.in-Ok.is
+          ∙ c.front.ensures world ready.stands
+          (no_moderation world.tree ready.reached.none_yet.drafts));
+    })
 
 pub returns-in-Err-clause-plan : goal.returns-in-Err-clause-plan
-returns-in-Err-clause-plan c = λ world ready.
-    let names = names_pages world.tree c.args.command.now c.requires.people
-    (sym (c.missing_page.ensures world ready) ∙ c.in_default.is) in
-    refused_denied c.args.part.now world c.args.now c.args.caller c.args.command.now c.in-Err.fault
-    c.requires.people names (sym c.in-Err.is ∙ c.allowed.ensures world ready names)
+returns-in-Err-clause-plan c = λ world desk ready.
+    front_refuses world desk c.args.now c.args.caller c.args.command.now c.in-Err.refusal
+    (refused _ c.in-Err.refusal (sym c.in-Err.is
+    ∙ c.front.ensures world ready.stands
+    (no_moderation world.tree ready.reached.none_yet.drafts)))

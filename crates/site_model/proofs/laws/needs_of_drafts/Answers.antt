@@ -1,4 +1,4 @@
--- The lemma says it of every world.
+-- No draft is live, and none is moderated.
 use Rattle.site_model.proofs.DraftLemmas.{needs_of_drafts}
 use Rattle.site_model.proofs.laws.needs_of_drafts.Goals as goal
 

@@ -1,5 +1,5 @@
--- The lemma says it of every new site.
-use Rattle.site_model.proofs.ReachedSound.{new_world_is_reached}
+-- The root stands alone, and the lists are empty.
+use Rattle.site_model.proofs.StartLemmas.{new_world_is_reached}
 use Rattle.site_model.proofs.laws.new_world_is_reached.Goals as goal
 
 pub returns : goal.returns

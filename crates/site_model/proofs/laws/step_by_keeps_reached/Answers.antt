@@ -1,4 +1,4 @@
--- The lemma says it of every world.
+-- Each command that is built keeps what it touches sound.
 use Rattle.site_model.proofs.ReachedSound.{step_by_keeps_reached}
 use Rattle.site_model.proofs.laws.step_by_keeps_reached.Goals as goal
 

@@ -1,4 +1,4 @@
--- The lemma says it of every world.
+-- The step of the tree part does, and no desk is open.
 use Rattle.site_model.proofs.ReachedSound.{step_keeps_reached}
 use Rattle.site_model.proofs.laws.step_keeps_reached.Goals as goal
 

@@ -1,5 +1,5 @@
--- The lemma says it of every world.
-use Rattle.site_model.proofs.StepSound.{step_keeps_sound}
+-- Each command that is built keeps what it touches sound, and the desks that are lost end.
+use Rattle.site_model.proofs.WorldSound.{step_keeps_sound}
 use Rattle.site_model.proofs.laws.step_keeps_sound.Goals as goal
 
 pub returns : goal.returns

@@ -1,30 +1,51 @@
 -- The place is tried, then the ids, then the content.
 use Rattle.std.proofs.Common.{◌+◌, ap, ◌∙◌}
-use Rattle.site_model.specs.Contents.{contents_length}
+use Rattle.site_model.specs.Limits.{contents_length}
+use Rattle.tree_edits.proofs.CommandLemmas.{create_names}
 use Rattle.site_model.specs.Create.{fresh_body}
-use Rattle.tree_edits.proofs.CreationRules.{weights_are, sum_fits, place_refuses, content_refuses, page_clear}
+use Rattle.tree_edits.proofs.CreationRules.{ids_refuse, weights_are, sum_fits, place_refuses, content_refuses, page_clear}
 use Rattle.tree_edits.proofs.creation.plan_page.Goals as goal
+
+pub plan_place-requires : goal.plan_place-requires
+plan_place-requires c =
+    let asked = c.requires.1 in (
+      c.requires.0,
+      asked.ready.stands.pages,
+      asked.ready.reached.sound.pages,
+      create_names c.requires.0 c.args.caller c.args.parent c.args.slug.now c.args.content.now
+          asked.front,
+    )
+
+pub returns-in_default : goal.returns-in_default
+returns-in_default c = λ world asked.
+    let place = c.in-Ok.ensures world (fresh_body c.args.caller world.next_revision)
+    asked.ready.stands.pages asked.ready.reached.sound.pages (create_names world c.args.caller
+    c.args.parent c.args.slug.now c.args.content.now asked.front) in
+    ids_refuse world c.args.now c.args.caller c.args.parent c.args.slug.now c.args.content.now
+    place.0 (c.in_default.ensures world asked.ready)
 
 pub returns-in-Err : goal.returns-in-Err
 returns-in-Err c = λ world asked.
     place_refuses world c.args.now c.args.caller c.args.parent c.args.slug.now c.args.content.now
     c.in-Err.fault
     (c.in-Err.ensures world (fresh_body c.args.caller world.next_revision)
-    asked.ready.stands.pages asked.ready.reached.sound asked.named)
+    asked.ready.stands.pages asked.ready.reached.sound.pages (create_names world c.args.caller c.args.parent c.args.slug.now
+    c.args.content.now asked.front))
 
 pub overflow_add-weight : goal.overflow_add-weight
 overflow_add-weight c =
     let ready = c.requires.1.ready in
     sum_fits c.weight.result c.form_length.result _ c.args.content.now
     (c.weight.ensures ∙ (weights_are c.args.part.now.shelf.revisions
-    ∙ ap contents_length ready.stands.revisions)) ready.reached.contents c.form_length.ensures.value
+    ∙ ap contents_length ready.stands.revisions)) ready.reached.sound.revisions.contents_fit c.form_length.ensures.value
     c.form_length.ensures.fits
 
 pub returns-then-weight-form_length-gt-MAX_CONTENT_SUM :
     goal.returns-then-weight-form_length-gt-MAX_CONTENT_SUM
 returns-then-weight-form_length-gt-MAX_CONTENT_SUM c = λ world asked.
     let place = c.in-Ok.ensures world (fresh_body c.args.caller world.next_revision)
-    asked.ready.stands.pages asked.ready.reached.sound asked.named in
+    asked.ready.stands.pages asked.ready.reached.sound.pages (create_names world c.args.caller c.args.parent c.args.slug.now
+    c.args.content.now asked.front) in
     let ids = c.in-Some.ensures world asked.ready in
     content_refuses world c.args.now c.args.caller c.args.parent c.args.slug.now
     c.args.content.now place.0 ids.0 c.weight.result _
@@ -36,7 +57,8 @@ returns-then-weight-form_length-gt-MAX_CONTENT_SUM c = λ world asked.
 pub returns : goal.returns
 returns c = λ world asked.
     let place = c.in-Ok.ensures world (fresh_body c.args.caller world.next_revision)
-    asked.ready.stands.pages asked.ready.reached.sound asked.named in
+    asked.ready.stands.pages asked.ready.reached.sound.pages (create_names world c.args.caller c.args.parent c.args.slug.now
+    c.args.content.now asked.front) in
     let ids = c.in-Some.ensures world asked.ready in (
       page_clear world c.args.now c.args.caller c.args.parent c.args.slug.now
           c.args.content.now place.0 ids.0 c.weight.result _

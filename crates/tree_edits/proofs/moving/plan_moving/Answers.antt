@@ -1,8 +1,10 @@
 -- The plan and the URLs are found, the reply is told, and room is made.
-use Rattle.std.proofs.Common.{refl, ◌∙◌}
+use Rattle.std.proofs.Common.{refl}
 use Rattle.site_types.specs.declared.command.Command.TheVariants.{Move}
+use Rattle.site_model.specs.Moves.{move_rules}
 use Rattle.tree_edits.specs.Moving.{IsMovePlan}
-use Rattle.tree_edits.proofs.AskedLemmas.{later_refuse}
+use Rattle.tree_edits.proofs.AskedLemmas.{own_refused, planned_is}
+use Rattle.tree_edits.proofs.CommandLemmas.{move_own}
 use Rattle.tree_edits.proofs.MoveLemmas.{move_named, move_planned}
 use Rattle.tree_edits.proofs.MovePlans.{rows_named}
 use Rattle.tree_edits.proofs.moving.plan_moving.Goals as goal
@@ -15,9 +17,11 @@ plan_there-requires c = (
 )
 
 pub returns-in-Err-clause-plan : goal.returns-in-Err-clause-plan
-returns-in-Err-clause-plan c = λ world caller asked.
-    later_refuse c.args.part.now c.args.part.now world c.args.now caller
-    (Move c.args.page c.args.target c.args.position) refl asked
+returns-in-Err-clause-plan c = λ world desk caller asked.
+    own_refused c.args.part.now c.args.part.now world desk c.args.now caller
+    (Move c.args.page c.args.target c.args.position) asked refl
+    (move_rules world.tree c.args.page c.args.target c.args.position)
+    (move_own world desk c.args.now caller c.args.page c.args.target c.args.position)
     (IsMovePlan world.tree c.args.page c.args.target c.args.position) c.in-Err.fault
     (c.in-Err.ensures world (move_named c.args.part.now world caller c.args.page c.args.target
     c.args.position asked))
@@ -29,16 +33,18 @@ told_page-requires c =
     c.args.position c.requires.2)).0
 
 pub returns-clause-plan : goal.returns-clause-plan
-returns-clause-plan c = λ world caller asked.
+returns-clause-plan c = λ world desk caller asked.
     let made = c.in-Ok.ensures world (move_named c.args.part.now world caller c.args.page
     c.args.target c.args.position asked) in
-    move_planned c.args.part.now world c.args.now caller c.args.page c.args.target c.args.position
-    asked c.in-Ok.made.0 c.in-Ok.made.1 made.0 made.1 _ _ _ _ (record {
+    planned_is (Move c.args.page c.args.target c.args.position) _ world desk c.args.now caller
+    _ _ _ _ c.quiet.ensures c.of_tree-change.ensures
+    (move_planned c.args.part.now world desk c.args.now caller c.args.page c.args.target
+    c.args.position asked c.later.ensures.moment c.in-Ok.made.0 c.in-Ok.made.1 made.0 made.1
+    c.len-len.ensures.pages _ _ _ (record {
       pages = c.reserve.ensures.pages;
       revisions = refl;
       lists = record { users = refl; groups = refl; members = refl; grants = refl };
       time = refl;
       next_page = refl;
       next_revision = refl;
-    }) c.in-Ok-reserve.ensures.ok c.in-Ok-told_page.ensures
-    (c.from_vec.ensures ∙ c.new.ensures.items) c.later.ensures
+    }) c.in-Ok-reserve.ensures.ok c.in-Ok-told_page.ensures c.later.ensures.value)

@@ -1,46 +1,36 @@
--- The pages are looked up, then the rights, and then the command is planned.
+-- The first rules are tried, and then the command is planned.
 use Rattle.std.proofs.Common.{sym, ◌∙◌}
-use Rattle.tree_edits.proofs.AskedLemmas.{unnamed_refuses, unnamed_names, rights_refuse, rights_allow}
+use Rattle.grants.proofs.FrontLemmas.{no_moderation, passed, refused}
+use Rattle.grants.proofs.StepLemmas.{front_refuses}
 use Rattle.tree_edits.proofs.prepare.prepare_tree.Goals as goal
 
-pub returns-in-Some-clause-plan : goal.returns-in-Some-clause-plan
-returns-in-Some-clause-plan c = λ world ready fits.
-    unnamed_refuses c.args.part.now c.args.part.now world c.args.now c.args.caller
-    c.args.command.now c.requires.tree ready c.in-Some.refusal
-    (sym c.unnamed.ensures ∙ c.in-Some.is)
+pub front-requires : goal.front-requires
+front-requires c = (c.requires.ready.0, c.requires.ready.1.stands)
 
-pub allowed-requires : goal.allowed-requires
-allowed-requires c = (
-  c.requires.ready.0,
-  c.requires.ready.1,
-  unnamed_names c.args.part.now c.args.part.now c.requires.ready.0 c.args.now c.args.caller
-      c.args.command.now c.requires.tree c.requires.ready.1
-      (sym c.unnamed.ensures ∙ c.in_default.is),
-)
-
-pub plan_allowed-requires-clause-asked : goal.plan_allowed-requires-clause-asked
-plan_allowed-requires-clause-asked c =
+pub plan_passed-requires-clause-asked : goal.plan_passed-requires-clause-asked
+plan_passed-requires-clause-asked c =
     let world = c.requires.ready.0 in
-    let ready = c.requires.ready.1 in
-    let named = unnamed_names c.args.part.now c.args.part.now world c.args.now c.args.caller
-    c.args.command.now c.requires.tree ready (sym c.unnamed.ensures ∙ c.in_default.is) in (
+    let ready = c.requires.ready.1 in (
       world,
-      rights_allow c.args.part.now c.args.part.now world c.args.now c.args.caller
-          c.args.command.now c.requires.tree ready c.requires.ready.2 named
-          (c.in-Ok.ensures world ready named).0,
+      record {
+        ready = ready;
+        fits = c.requires.ready.2;
+        front = passed _ (sym c.in-Ok.is
+            ∙ c.front.ensures world ready.stands (no_moderation world.tree ready.reached.none_yet.drafts));
+      },
     )
 
 pub returns-in-Ok-clause-plan : goal.returns-in-Ok-clause-plan
-returns-in-Ok-clause-plan c = λ world ready fits.
-    let named = unnamed_names c.args.part.now c.args.part.now world c.args.now c.args.caller
-    c.args.command.now c.requires.tree ready (sym c.unnamed.ensures ∙ c.in_default.is) in
-    c.plan_allowed.ensures.plan world
-    (rights_allow c.args.part.now c.args.part.now world c.args.now c.args.caller
-    c.args.command.now c.requires.tree ready fits named (c.in-Ok.ensures world ready named).0)
+returns-in-Ok-clause-plan c = λ world desk ready fits.
+    c.plan_passed.ensures.plan world desk (record {
+      ready = ready;
+      fits = fits;
+      front = passed _ (sym c.in-Ok.is
+          ∙ c.front.ensures world ready.stands (no_moderation world.tree ready.reached.none_yet.drafts));
+    })
 
 pub returns-in-Err-clause-plan : goal.returns-in-Err-clause-plan
-returns-in-Err-clause-plan c = λ world ready fits.
-    let named = unnamed_names c.args.part.now c.args.part.now world c.args.now c.args.caller
-    c.args.command.now c.requires.tree ready (sym c.unnamed.ensures ∙ c.in_default.is) in
-    rights_refuse c.args.part.now c.args.part.now world c.args.now c.args.caller c.args.command.now
-    c.requires.tree ready c.in-Err.fault named (c.in-Err.ensures world ready named)
+returns-in-Err-clause-plan c = λ world desk ready fits.
+    front_refuses world desk c.args.now c.args.caller c.args.command.now c.in-Err.refusal
+    (refused _ c.in-Err.refusal (sym c.in-Err.is
+    ∙ c.front.ensures world ready.stands (no_moderation world.tree ready.reached.none_yet.drafts)))

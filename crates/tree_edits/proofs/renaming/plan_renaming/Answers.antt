@@ -1,6 +1,10 @@
 -- The URLs are found, the reply is told, and room is made.
 use Rattle.std.proofs.Common.{refl, ◌∙◌}
-use Rattle.tree_edits.proofs.SlugLemmas.{slug_refuses}
+use Rattle.site_types.specs.declared.command.Command.TheVariants.{SetSlug}
+use Rattle.site_model.specs.Slugs.{slug_rules}
+use Rattle.tree_edits.specs.Naming.{AreNewUrls}
+use Rattle.tree_edits.proofs.AskedLemmas.{own_refused, planned_is}
+use Rattle.tree_edits.proofs.CommandLemmas.{slug_own}
 use Rattle.tree_edits.proofs.SlugLemmas.{slug_named, row_named, slug_planned}
 use Rattle.tree_edits.proofs.renaming.plan_renaming.Goals as goal
 
@@ -11,9 +15,12 @@ urls_with-requires c = (
 )
 
 pub returns-in-Err-clause-plan : goal.returns-in-Err-clause-plan
-returns-in-Err-clause-plan c = λ world caller asked.
-    slug_refuses c.args.part.now c.args.part.now world c.args.now caller c.args.page
-    c.args.slug.now asked c.in-Err.fault
+returns-in-Err-clause-plan c = λ world desk caller asked.
+    own_refused c.args.part.now c.args.part.now world desk c.args.now caller
+    (SetSlug c.args.page c.args.slug.now) asked refl
+    (slug_rules world.tree c.args.page c.args.slug.now)
+    (slug_own world desk c.args.now caller c.args.page c.args.slug.now)
+    (AreNewUrls world.tree c.args.page c.args.slug.now) c.in-Err.fault
     (c.in-Err.ensures world (slug_named c.args.part.now world caller c.args.page c.args.slug.now
     asked))
 
@@ -23,11 +30,13 @@ told_page-requires c =
     (slug_named c.args.part.now c.requires.0 c.requires.1 c.args.page c.args.slug.now c.requires.2)
 
 pub returns-clause-plan : goal.returns-clause-plan
-returns-clause-plan c = λ world caller asked.
+returns-clause-plan c = λ world desk caller asked.
     let made = c.in-Ok.ensures world (slug_named c.args.part.now world caller c.args.page
     c.args.slug.now asked) in
-    slug_planned c.args.part.now world c.args.now caller c.args.page c.args.slug.now asked
-    c.in-Ok.urls made.0 made.1 _ _ _ _ _ _ (record {
+    planned_is (SetSlug c.args.page c.args.slug.now) _ world desk c.args.now caller _ _ _ _
+    c.quiet.ensures c.of_tree-change.ensures
+    (slug_planned c.args.part.now world desk c.args.now caller c.args.page c.args.slug.now asked
+    c.later.ensures.moment c.in-Ok.urls made.0 made.1 c.len-len.ensures.pages _ _ _ _ _ (record {
       pages = c.reserve.ensures.pages;
       revisions = refl;
       lists = record { users = refl; groups = refl; members = refl; grants = refl };
@@ -35,5 +44,4 @@ returns-clause-plan c = λ world caller asked.
       next_page = refl;
       next_revision = refl;
     }) c.in-Ok-reserve.ensures.ok c.in-Ok-told_page.ensures
-    (c.from_vec-none.ensures ∙ c.new.ensures.items) c.copy.ensures
-    (c.from_vec.ensures ∙ c.new-2.ensures.items) c.later.ensures
+    (c.from_vec-none.ensures ∙ c.new.ensures.items) c.copy-slug.ensures c.later.ensures.value)

@@ -2,7 +2,8 @@
 use Rattle.std.proofs.Common.{Err, Ok, sym, subst, ◌∙◌}
 use Rattle.tree_model.proofs.CountLemmas.{told_apart}
 use Rattle.slug_urls.specs.Plans.{planned_urls, UnlessMemory}
-use Rattle.tree_edits.specs.Naming.{slug_refusal, AreNewUrls}
+use Rattle.site_model.specs.Slugs.{slug_rules}
+use Rattle.tree_edits.specs.Naming.{AreNewUrls}
 use Rattle.tree_edits.specs.Plans.{PlansBy}
 use Rattle.tree_edits.proofs.MovePlans.{no_row_missing}
 use Rattle.tree_edits.proofs.SlugCall.{seen, no_parent, below, parent_is_there, parent_outside, sought, same_slug}
@@ -64,7 +65,7 @@ returns-in-Err c = λ part named.
     c.parent.ensures c.in-Some-parent.is in
     let known = sought _ c.args.page c.in-Some.row.now of part named.sound named.stands
     c.args.slug.now c.in-Some-parent.parent under (sym c.eq.ensures.value ∙ c.if-eq.false) in
-    subst (λ f. PlansBy (slug_refusal part.tree c.args.page c.args.slug.now)
+    subst (λ f. PlansBy (slug_rules part.tree c.args.page c.args.slug.now)
     (AreNewUrls part.tree c.args.page c.args.slug.now) (Err f)) (sym c.url_fault.ensures)
     (urls_told part c.args.page c.args.slug.now of.top c.in-Some-parent.parent known
     (Err c.in-Err.fault)

@@ -8,8 +8,8 @@ use Rattle.api_routes.proofs.router.Routes.answer.Goals as goal
 pub returns-in-Command : goal.returns-in-Command
 returns-in-Command c = asked-on _ _ _ c.in-Command.ensures c.command_call.ensures
 
-pub returns-in-Card : goal.returns-in-Card
-returns-in-Card c = asked-on _ _ _ c.in-Card.ensures c.card_call.ensures
+pub returns-in-Read : goal.returns-in-Read
+returns-in-Read c = asked-on _ _ _ c.in-Read.ensures c.read_call.ensures
 
 pub returns-in-Unbuilt : goal.returns-in-Unbuilt
 returns-in-Unbuilt c =

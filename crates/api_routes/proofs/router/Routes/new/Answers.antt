@@ -6,8 +6,7 @@ pub invariant_of-result : goal.invariant_of-result
 unfolding all_routes
 invariant_of-result c =
     rw (
-      c.in_ok-add_unbuilt.ensures,
-      c.in_ok-add.ensures,
+      c.in_ok-add_reads.ensures,
       c.in_ok-add_commands.ensures,
       c.new-router.ensures,
     ) refl
@@ -16,8 +15,7 @@ pub returns : goal.returns
 unfolding all_routes
 returns c =
     rw (
-      c.in_ok-add_unbuilt.ensures,
-      c.in_ok-add.ensures,
+      c.in_ok-add_reads.ensures,
       c.in_ok-add_commands.ensures,
       c.new-router.ensures,
     ) refl

@@ -7,7 +7,7 @@ use Rattle.grants.proofs.HeldLemmas.{held_is}
 use Rattle.grants.proofs.store.Grants.held.Goals as goal
 
 pub returns : goal.returns
-returns c part same sound lists =
+returns c part same lists =
     held_is part c.args.user c.args.page c.granted_up.result c.members_of-own.result.now
     c.as_slice-2.result.now
     (ap (λ (users : List UserRow). is_superuser users c.args.user) (sym lists.users)

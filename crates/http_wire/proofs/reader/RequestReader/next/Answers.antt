@@ -1,4 +1,4 @@
--- What is remembered holds of these bytes, and of them with more behind.
+-- What is remembered holds of these bytes, and of them with more after.
 use Rattle.std.proofs.Common.{◌<◌, length, subst, sym}
 use Rattle.http_wire.specs.Reading.{Scan, Knows}
 use Rattle.http_wire.proofs.ReadingLemmas.{knows_more, search_here, short_here}

@@ -1,5 +1,5 @@
 -- A new row put into each of the three that the store keeps.
-use Rattle.std.proofs.Common.{◌≡◌, ℕ, List, Some, cond, sym, subst}
+use Rattle.std.proofs.Common.{◌≡◌, ℕ, List, Some, false, cond, sym, subst}
 use Rattle.page_tree.specs.Rows.{comes_before, with_row}
 use Rattle.step_path.specs.Path.{steps_of}
 use Rattle.std.specs.Map.{lookup}
@@ -41,7 +41,7 @@ kept_then : (c : goal.After-put_at) →
     c.self.inside.stored.entries c.self.inside.order.items))
 kept_then c =
     let p = c.parent_of-parent.result in
-    let new : StoredRow = record { row = c.args.row; url = c.args.url; parent = Some p } in
+    let new : StoredRow = record { row = c.args.row; url = c.args.url; parent = Some p; counted = false } in
     let is = subst (λ (v : RowList). IsNewRow v.pages c.args.row) (sym c.self.view_is) c.requires.new in
     let found = parent_by_path _ c.args.row.path _ _ p c.as_slice.ensures.value c.self.view_is
     c.parent_of-parent.ensures in
@@ -51,7 +51,7 @@ kept_then c =
     let names = names_by_slug _ _ p c.copy.result c.args.row.slug c.args.row.id c.copy.ensures
     c.put-2.ensures.updates.0 in
     rw (c.put_at.ensures.items, place)
-    (insert_kept _ _ _ _ _ _ _ new p c.self.invariant is found (λ i. Some p) fits
+    (insert_kept _ _ _ _ _ _ _ new p c.self.invariant is found (λ i. Some p) fits (λ i. false)
     c.add_kid.ensures.others c.put.ensures.updates.0 names)
 
 pub add_kid-requires : goal.add_kid-requires

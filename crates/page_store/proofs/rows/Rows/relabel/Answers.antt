@@ -10,14 +10,17 @@ use Rattle.page_store.proofs.rows.Rows.relabel.Goals as goal
 
 -- what is kept before it is settled
 ready_before : (g : _) (c : goal.After-deref-2 g) →
-    IsReady c.put_urls.new.stored.entries c.deref-2.result.now c.self.inside.kids.entries
+    IsReady c.put_listed.new.stored.entries c.deref-2.result.now c.self.inside.kids.entries
     c.id_at-top.result (relabelled_rows c.args.from c.args.n c.args.to c.args.rows.now c.args.urls
     c.args.self.now.pages)
 ready_before g c =
-    ready _ _ _ _ _ _ _ _ c.args.from c.args.n c.args.to _ _ _ _ _ c.self.invariant (ap (λ (v :
-    RowList). v.pages) c.self.view_is) c.requires.are_pages c.requires.parents c.deref.ensures.value
-    c.id_at-top.ensures (c.deref-2.ensures.value ∙ c.move_items.ensures.items) c.as_slice.ensures
-    c.into_vec.ensures c.put_paths.ensures.rows c.put_urls.ensures.rows
+    ready _ _ _ _ _ _ _ c.args.from c.args.n c.args.to _ _ _ c.self.invariant (ap (λ (v : RowList).
+    v.pages) c.self.view_is) c.requires.are_pages c.requires.parents c.deref.ensures.value
+    c.id_at-top.ensures (c.deref-2.ensures.value ∙ c.move_items.ensures.items)
+    c.put_listed.ensures.rows
+
+pub put_listed-requires-clause-texts : goal.put_listed-requires-clause-texts
+put_listed-requires-clause-texts g c = c.self.invariant.texts
 
 pub settle-requires-clause-listed : goal.settle-requires-clause-listed
 settle-requires-clause-listed g c = (ready_before g c).listed_rows
@@ -30,14 +33,14 @@ settle-requires-clause-named g c = (ready_before g c).named
 
 -- the same, told after it is settled
 ready_then : (g : _) (c : goal.After-settle g) →
-    IsReady c.put_urls.new.stored.entries c.deref-2.result.now c.self.inside.kids.entries
+    IsReady c.put_listed.new.stored.entries c.deref-2.result.now c.self.inside.kids.entries
     c.id_at-top.result (relabelled_rows c.args.from c.args.n c.args.to c.args.rows.now c.args.urls
     c.args.self.now.pages)
 ready_then g c =
-    ready _ _ _ _ _ _ _ _ c.args.from c.args.n c.args.to _ _ _ _ _ c.self.invariant (ap (λ (v :
-    RowList). v.pages) c.self.view_is) c.requires.are_pages c.requires.parents c.deref.ensures.value
-    c.id_at-top.ensures (c.deref-2.ensures.value ∙ c.move_items.ensures.items) c.as_slice.ensures
-    c.into_vec.ensures c.put_paths.ensures.rows c.put_urls.ensures.rows
+    ready _ _ _ _ _ _ _ c.args.from c.args.n c.args.to _ _ _ c.self.invariant (ap (λ (v : RowList).
+    v.pages) c.self.view_is) c.requires.are_pages c.requires.parents c.deref.ensures.value
+    c.id_at-top.ensures (c.deref-2.ensures.value ∙ c.move_items.ensures.items)
+    c.put_listed.ensures.rows
 
 -- what the store keeps then stands for the rows as they are to be
 kept_then : (g : _) (c : goal.After-settle g) →

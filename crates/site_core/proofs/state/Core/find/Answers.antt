@@ -6,4 +6,4 @@ pub returns : goal.returns
 returns c = λ world ready.
     let pages = ready.stands.tree.pages in
     c.find_live.ensures world.part.tree pages
-    (have_slugs world.part ready.reached.part.sound c.args.self.now.tree.rows.pages pages)
+    (have_slugs world.part ready.reached.sound.part.pages c.args.self.now.tree.rows.pages pages)

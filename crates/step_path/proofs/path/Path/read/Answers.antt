@@ -10,7 +10,8 @@ use Rattle.step_path.proofs.PathLemmas.{IsPathText-length, IsStepText-at, IsPath
 use Rattle.step_path.proofs.path.Path.read.Goals as goal
 
 -- four characters are added to those read so far
-one_more_block : (text block : List ℕ) (k : ℕ) → block ≡ take (4 * k + 4 - 4 * k) (drop (4 * k) text) →
+one_more_block : (text block : List ℕ) (k : ℕ) →
+    block ≡ take (4 * k + 4 - 4 * k) (drop (4 * k) text) →
     take (4 * k) text ++ block ≡ take (4 * (k + 1)) text
 one_more_block text block k is =
     let four : 4 * k + 4 - 4 * k ≡ 4 = omega arith in
@@ -49,8 +50,13 @@ loop-place-preserved c =
     let block : step_text step ≡ take (4 * k + 4 - 4 * k) (drop (4 * k) text) =
     ap step_text c.get.ensures.value ∙ c.in-Some.ensures.1 in
     record {
-      count = ap length c.push.ensures.items ∙ length_push steps step ∙ ap (λ n. n + 1) c.loop-place.invariant.count;
-      steps = rw c.push.ensures.items (AreSteps-append steps (step ∷ []) c.loop-place.invariant.steps (c.get.ensures.range, tt));
+      count =
+          ap length c.push.ensures.items ∙ length_push steps step
+          ∙ ap (λ n. n + 1) c.loop-place.invariant.count;
+      steps =
+          rw c.push.ensures.items
+          (AreSteps-append steps (step ∷ []) c.loop-place.invariant.steps
+          (c.get.ensures.range, tt));
       joins = ap path_text c.push.ensures.items ∙ path_text-push steps step
           ∙ ap (λ (t : List ℕ). t ++ step_text step) c.loop-place.invariant.joins
           ∙ one_more_block text (step_text step) k block;
@@ -61,5 +67,7 @@ returns-clause-path c =
     let text : List ℕ = c.args.text.now in
     let whole : path_text c.loop-place.steps.items ≡ text =
     c.loop-place.invariant.joins ∙ take_all (4 * c.loop-place.place) text (omega arith) in
-    let some : 0 < length text = omega (arith, eqb-false (length text) 0 (sym c.is_empty.ensures ∙ c.if-is_empty.false)) in
-    IsPathText-read c.loop-place.steps.items text c.loop-place.invariant.steps whole some (omega arith)
+    let some : 0 < length text =
+    omega (arith, eqb-false (length text) 0 (sym c.is_empty.ensures ∙ c.if-is_empty.false)) in
+    IsPathText-read c.loop-place.steps.items text c.loop-place.invariant.steps whole some
+    (omega arith)

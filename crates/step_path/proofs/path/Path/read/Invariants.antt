@@ -1,4 +1,5 @@
--- The steps so far are steps, one for each block of four characters, and their text is the text so far.
+-- The steps so far are steps, one for each block of four characters, and their text is the text so
+-- far.
 use Rattle.std.proofs.Common.{◌≡◌, ◌*◌, take, length}
 use Rattle.step_path.specs.Path.{AreSteps, path_text}
 use Rattle.step_path.proofs.path.Path.read.Given as goal

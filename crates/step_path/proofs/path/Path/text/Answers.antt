@@ -21,7 +21,8 @@ loop-number-preserved c =
     let numbers : List ℕ = c.as_slice-numbers.result.now in
     let k : ℕ = c.loop-number.number-index in
     let so_far : c.loop-number.text.items ≡ path_text (take k numbers) = c.loop-number.invariant in
-    let added : c.text.result ≡ step_text (get_or numbers k 0) = c.text.ensures ∙ ap step_text c.checked-step.ensures in
+    let added : c.text.result ≡ step_text (get_or numbers k 0) =
+    c.text.ensures ∙ ap step_text c.checked-step.ensures in
     let room : length c.loop-number.text.items + length c.text.result ≤ 252 =
     omega (
       arith,
@@ -33,7 +34,8 @@ loop-number-preserved c =
       c.self.invariant.within,
       c.loop-number-test.true,
     ) in
-    let appended : c.try_extend_from_slice.new.self.items ≡ c.loop-number.text.items ++ c.text.result =
+    let appended :
+    c.try_extend_from_slice.new.self.items ≡ c.loop-number.text.items ++ c.text.result =
     search (rules, c.try_extend_from_slice.ensures.variant.1 room) in
     appended
     ∙ ap (λ (t : List ℕ). t ++ c.text.result) so_far
@@ -46,5 +48,6 @@ returns-clause-path c =
     let all : take c.loop-number.number-index numbers ≡ numbers =
     take_all c.loop-number.number-index numbers c.loop-number-test.false in
     subst IsPathText
-    (sym (c.loop-number.invariant ∙ ap path_text all ∙ ap path_text c.as_slice-numbers.ensures.value))
+    (sym (c.loop-number.invariant ∙ ap path_text all
+    ∙ ap path_text c.as_slice-numbers.ensures.value))
     (IsPathText-path_text c.self.inside.steps.items c.self.invariant)

@@ -19,9 +19,11 @@ invariant_of-result c =
     let path = c.self.inside.steps.items in
     let is : c.try_extend_from_slice.new.self.items ≡ relabelled old new path =
     c.in-Ok.ensures.ok
-    ∙ ap (λ (t : List ℕ). t ++ take (length c.deref.result.now - c.len.result) (drop c.len.result c.deref.result.now))
+    ∙ ap (λ (t : List ℕ). t
+    ++ take (length c.deref.result.now - c.len.result) (drop c.len.result c.deref.result.now))
     (c.copied-steps.ensures ∙ c.deref-2.ensures.0)
-    ∙ ap (λ (t : List ℕ). new ++ take (length t - c.len.result) (drop c.len.result t)) c.deref.ensures.0
+    ∙ ap (λ (t : List ℕ). new ++ take (length t - c.len.result) (drop c.len.result t))
+    c.deref.ensures.0
     ∙ joined old new path c.len.result c.len.ensures.value in
     let short : length (relabelled old new path) ≤ MAX_DEPTH =
     omega (arith, ap length is, c.in-Ok.ensures.len, c.in-Ok.ensures.variant.0 refl) in

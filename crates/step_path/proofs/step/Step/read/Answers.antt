@@ -18,5 +18,6 @@ pub returns-else-eq : goal.returns-else-eq
 returns-else-eq c = λ step.
     let is = (slice_eq-Decides Decides-eqb _ _ _ c.eq.ensures).1 in
     both_ways c.eq.result c.if-eq.false
-    (is (c.as_slice.ensures ∙ c.text.ensures ∙ ap step_text (c.in-Some.ensures.1 ∙ c.number_in.ensures)
+    (is (c.as_slice.ensures ∙ c.text.ensures
+    ∙ ap step_text (c.in-Some.ensures.1 ∙ c.number_in.ensures)
     ∙ (step_from_text c.args.text.now step).1))

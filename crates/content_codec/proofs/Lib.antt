@@ -1,0 +1,9 @@
+pub mod Readings
+pub mod Numbers
+pub mod Fields
+pub mod Contents
+pub mod Fronts
+pub mod Loops
+pub mod Texts
+pub mod Limits
+pub mod Writing

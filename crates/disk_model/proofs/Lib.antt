@@ -1,0 +1,9 @@
+pub mod FileLemmas
+pub mod MemoryLemmas
+pub mod OneFileLemmas
+pub mod PastLemmas
+pub mod RunLemmas
+pub mod StoryLemmas
+pub mod TornLemmas
+pub mod ImageLemmas
+pub mod MomentLemmas

@@ -1,0 +1,4 @@
+pub mod ListReadings
+pub mod Commands
+pub mod Tags
+pub mod Entries

@@ -1,0 +1,4 @@
+pub mod Lists
+pub mod Commands
+pub mod Entries
+pub mod Laws

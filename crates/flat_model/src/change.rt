@@ -1,0 +1,148 @@
+//! What becomes of each store.
+ghost use Rattle.std.specs.Prelude.{◌≡◌};
+ghost use Rattle.flat_model.specs.Single.{tree_change, people_change};
+
+use page_store::{MovePlan, Urls};
+use site_types::{
+    Body, Digest, GroupId, Ids, Items, Moment, PageId, PageRow, Permission, Revision, Slug, Url,
+    UserId,
+};
+use std::alloc::Global;
+
+/// What becomes of each store of the tree part, in the order of the fields. It says nothing of the
+/// command that it comes from.
+#[derive(Drop)]
+pub struct Change {
+    /// What becomes of the rows of pages.
+    pub tree: TreeChange,
+    /// The pages whose fields change, each with all fields that it has then.
+    pub bodies: Items<(PageId, Body)>,
+    /// The pages whose revisions and grants go.
+    pub gone: Ids,
+    /// The revisions that come, rising.
+    pub revisions: Items<Revision>,
+    /// What becomes of users, groups, memberships and grants.
+    pub people: PeopleChange,
+    /// The time then.
+    pub time: Moment,
+    /// The number of the next page then.
+    pub next_page: u32,
+    /// The number of the next revision then.
+    pub next_revision: u32,
+}
+
+/// What becomes of the rows of pages.
+#[derive(Drop)]
+pub enum TreeChange {
+    /// Nothing.
+    Nothing,
+    /// Pages come.
+    Insert {
+        /// Their rows, which have no kids, each with its URL; a page comes after its parent.
+        rows: Items<(PageRow, Url)>,
+    },
+    /// A page moves with all below it.
+    Move {
+        /// Where it goes, and the pages whose path changes.
+        plan: MovePlan,
+        /// The pages whose URL changes, each with the new one.
+        urls: Urls,
+    },
+    /// A page goes with all below it.
+    Delete {
+        /// The page.
+        page: PageId,
+    },
+    /// A page gets another slug.
+    Rename {
+        /// The page.
+        page: PageId,
+        /// Its new slug.
+        slug: Slug,
+        /// The pages whose URL changes, each with the new one.
+        urls: Urls,
+    },
+}
+
+/// What becomes of users, groups, memberships and grants.
+#[derive(Drop)]
+pub enum PeopleChange {
+    /// Nothing.
+    Nothing,
+    /// A user comes.
+    User {
+        /// Whether the user is a superuser.
+        superuser: bool,
+        /// The digest of the user's token.
+        digest: Digest,
+    },
+    /// A group comes.
+    Group,
+    /// A user becomes a member of a group, or is none any more.
+    Member {
+        /// The user.
+        user: UserId,
+        /// The group.
+        group: GroupId,
+        /// Whether the user is a member from now on.
+        on: bool,
+    },
+    /// A permission is granted or withdrawn.
+    Grant {
+        /// The group.
+        group: GroupId,
+        /// The page.
+        page: PageId,
+        /// The permission.
+        permission: Permission,
+        /// Whether the group has it from now on.
+        on: bool,
+    },
+}
+
+impl Change {
+    /// A change of the rows of pages and of the time, with these next ids. It takes no memory.
+    pub fn of_tree(
+        alloc: Global,
+        tree: TreeChange,
+        time: Moment,
+        next_page: u32,
+        next_revision: u32,
+    ) -> Change
+        ensures { result ≡ tree_change tree time next_page next_revision }
+    {
+        Change {
+            tree,
+            bodies: Items::from_vec(Vec::new(alloc)),
+            gone: Ids::from_vec(Vec::new(alloc)),
+            revisions: Items::from_vec(Vec::new(alloc)),
+            people: PeopleChange::Nothing,
+            time,
+            next_page,
+            next_revision,
+        }
+    }
+
+    /// A change of users, groups, memberships and grants and of the time, with these next ids. It
+    /// takes no memory.
+    pub fn of_people(
+        alloc: Global,
+        people: PeopleChange,
+        time: Moment,
+        next_page: u32,
+        next_revision: u32,
+    ) -> Change
+        ensures { result ≡ people_change people time next_page next_revision }
+    {
+        Change {
+            tree: TreeChange::Nothing,
+            bodies: Items::from_vec(Vec::new(alloc)),
+            gone: Ids::from_vec(Vec::new(alloc)),
+            revisions: Items::from_vec(Vec::new(alloc)),
+            people,
+            time,
+            next_page,
+            next_revision,
+        }
+    }
+}

@@ -1,0 +1,6 @@
+//! What a command changes in the tree part, store by store, and the lists that a change leaves.
+#![tactic(auto)]
+
+mod change;
+
+pub use change::{Change, PeopleChange, TreeChange};

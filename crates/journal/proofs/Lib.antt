@@ -1,0 +1,5 @@
+pub mod ByteLemmas
+pub mod FormLemmas
+pub mod JournalLemmas
+pub mod ReadingLemmas
+pub mod ScanLemmas

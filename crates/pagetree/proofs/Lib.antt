@@ -1,9 +1,0 @@
-pub mod AnswerLemmas
-pub mod ExchangeLemmas
-pub mod HeldLemmas
-pub mod SessionLemmas
-pub mod SiteLemmas
-pub mod SoFarLemmas
-pub mod TranscriptLemmas
-pub mod WordLemmas
-pub mod EndLemmas

@@ -1,6 +1,0 @@
--- Each call goes on with fewer words.
-use Rattle.std.proofs.Common.{length}
-use Rattle.pagetree.proofs.words.+options_behind.Given as goal
-
-abbrev pub decreases-options_behind : goal.decreases-options_behind
-decreases-options_behind l = length l.words.now

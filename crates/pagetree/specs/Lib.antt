@@ -1,8 +1,0 @@
-pub mod Holding
-pub mod Standing
-pub mod Exchanging
-pub mod Beginning
-pub mod Ending
-pub mod Words
-pub mod Codes
-pub mod Laws

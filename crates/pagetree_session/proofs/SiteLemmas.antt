@@ -1,0 +1,146 @@
+-- What the site in memory stands for after a command, by how it went.
+use Rattle.std.proofs.Common.{◌≡◌, ◌+◌, ℕ, true, false, [], ◌∷◌, Ok, Err, IfOk, refl, sym, ap, subst, arith}
+use Rattle.site_types.specs.declared.command.Command.{Command}
+use Rattle.site_types.specs.declared.entry.Entry.{Entry}
+use Rattle.site_types.specs.declared.refusal.Refusal.{Refusal}
+use Rattle.site_types.specs.declared.reply.Reply.{Reply}
+use Rattle.site_history.specs.History.{Tally, accepted}
+use Rattle.site_ids.specs.Moment.{IsMoment}
+use Rattle.site_model.specs.World.{World}
+use Rattle.site_model.specs.Laws.{FitsCommand}
+use Rattle.site_model.specs.Reached.{IsReached}
+use Rattle.site_model.specs.Step.{is_built, step, step_at}
+use Rattle.site_model.proofs.ReachedSound.{step_keeps_reached}
+use Rattle.grants.specs.Standing as parts
+use Rattle.grants.specs.declared.fault.Fault.{Fault}
+use Rattle.grants.specs.declared.fault.Fault.TheVariants as faults
+use Rattle.site_core.specs.Standing as cores
+use Rattle.site_core.specs.declared.state.Core.{Core}
+use Rattle.wire_model.specs.declared.answer.Answer.{Answer}
+use Rattle.wire_model.specs.declared.answer.Answer.TheVariants.{Accepted, Refused, NotBuilt}
+use Rattle.wire_model.specs.Exchange.{Outcome, telling, entry_of, run}
+use Rattle.pagetree_session.specs.declared.memory_site.MemorySite.{MemorySite}
+use Rattle.pagetree_session.specs.Standing.{StandsFor, IsReady, tally_with, Answers, fault_answered}
+
+-- what is in memory is ready too
+pub core_ready : (site : MemorySite) (tally : Tally World) → IsReady site tally →
+    cores.IsReady site.core tally.world
+core_ready site tally ready = record { stands = ready.stands.core; reached = ready.reached }
+
+-- where all but the room is as it was, it stands for what it stood for
+pub same_stands : (before after : Core) (world : World) → parts.IsSame before.tree after.tree →
+    cores.StandsFor before world → cores.StandsFor after world
+same_stands before after world same stands =
+    let tree = stands.tree in
+    let lists = tree.lists in
+    record {
+      tree = record {
+        pages = rw same.pages tree.pages;
+        revisions = rw same.revisions tree.revisions;
+        lists = record {
+          users = rw same.lists.users lists.users;
+          groups = rw same.lists.groups lists.groups;
+          members = rw same.lists.members lists.members;
+          grants = rw same.lists.grants lists.grants;
+        };
+        no_tasks = tree.no_tasks;
+        no_workflows = tree.no_workflows;
+        no_desks = tree.no_desks;
+        time = rw same.time tree.time;
+        next_page = rw same.next_page tree.next_page;
+        next_revision = rw same.next_revision tree.next_revision;
+      };
+      no_desks = stands.no_desks;
+    }
+
+-- an answer that adds nothing leaves the site as it stands
+pub answers_telling : (site : MemorySite) (tally : Tally World) (outcome : Outcome) (answer : Answer) →
+    outcome ≡ telling answer → StandsFor site tally → IsReached tally.world →
+    Answers tally outcome answer site
+answers_telling site tally outcome answer is stands reached =
+    subst (λ (o : Outcome). Answers tally o answer site) (sym is) (record {
+      answer_is = refl;
+      stands = stands;
+      reached = reached;
+      number = omega arith;
+    })
+
+-- a command that is not built is told so
+pub answers_not_built : (site : MemorySite) (tally : Tally World) (user moment : ℕ) (command : Command) →
+    is_built command ≡ false → IsReady site tally →
+    Answers tally (run tally user moment command) NotBuilt site
+answers_not_built site tally user moment command is ready =
+    answers_telling site tally _ NotBuilt (rw is refl) ready.stands ready.reached
+
+module _ (tally : Tally World) (user moment : ℕ) (command : Command) where
+  -- the entry of the command, which has the next number
+  abbrev its_entry : Entry
+  its_entry = entry_of user moment command (tally.number + 1)
+
+  -- a command that is built and refused by the step is told so
+  run_refused : (refusal : Refusal) → is_built command ≡ true →
+      step_at tally.world moment user command ≡ Err refusal →
+      run tally user moment command ≡ telling (Refused refusal)
+  run_refused refusal built is = rw (built, is) refl
+
+  -- the answer to it
+  pub answers_refused : (site : MemorySite) (refusal : Refusal) → is_built command ≡ true →
+      IsReached tally.world → step_at tally.world moment user command ≡ Err refusal →
+      StandsFor site tally →
+      Answers tally (run tally user moment command) (Refused refusal) site
+  answers_refused site refusal built reached is stands =
+      answers_telling site tally _ (Refused refusal) (run_refused refusal built is) stands reached
+
+  -- what is told of a fault of it
+  pub answers_fault_told : (before : MemorySite) (core : Core) (fault : Fault) →
+      is_built command ≡ true → IsReady before tally →
+      cores.Prepares tally.world moment user command core (Err fault) →
+      parts.IsSame before.core.tree core.tree →
+      IfOk (fault_answered fault)
+      (λ answer. Answers tally (run tally user moment command) answer
+      (record { core = core; number = before.number }))
+  answers_fault_told before core (faults.Refused refusal) built ready is same =
+      answers_refused (record { core = core; number = before.number }) refusal built ready.reached is
+      (record {
+        core = same_stands before.core core tally.world same ready.stands.core;
+        number = ready.stands.number;
+      })
+  answers_fault_told before core faults.Memory built ready is same = tt
+
+  module _ (after : World) (reply : Reply) (built : is_built command ≡ true)
+      (is : step_at tally.world moment user command ≡ Ok (after, reply)) where
+    -- a command that is built and accepted by the step is entered
+    run_accepted : run tally user moment command ≡ record {
+      answer = Accepted (tally.number + 1) reply;
+      added = accepted its_entry reply ∷ [];
+    }
+    run_accepted = rw (built, is) refl
+
+    -- the tally after it
+    abbrev tally_after : Tally World
+    tally_after = record { world = after; number = tally.number + 1; log = tally.log }
+
+    -- what the history then comes to
+    tally_accepted : tally_with tally (accepted its_entry reply ∷ []) ≡ tally_after
+    tally_accepted = rw is refl
+
+    -- the step of the entry is that of the command
+    entry_step : step tally.world its_entry ≡ Ok (after, reply)
+    entry_step = is
+
+    -- the answer to it
+    pub answers_accepted : (site : MemorySite) → IsReached tally.world → IsMoment moment →
+        FitsCommand command →
+        cores.StandsFor site.core after → site.number ≡ tally.number + 1 →
+        Answers tally (run tally user moment command) (Accepted site.number reply) site
+    answers_accepted site reached in_range fits stands number =
+        let stands_after : StandsFor site tally_after = record { core = stands; number = number } in
+        let reached_after = step_keeps_reached tally.world after reply its_entry reached
+        in_range fits entry_step in
+        subst (λ (o : Outcome). Answers tally o (Accepted site.number reply) site)
+        (sym run_accepted) (record {
+          answer_is = ap (λ n. Accepted n reply) number;
+          stands = rw tally_accepted stands_after;
+          reached = subst (λ (t : Tally World). IsReached t.world) (sym tally_accepted) reached_after;
+          number = omega arith;
+        })

@@ -1,0 +1,5 @@
+pub mod Holding
+pub mod Serving
+pub mod Exchanging
+pub mod Ending
+pub mod Laws

@@ -1,0 +1,135 @@
+-- What the first rules of the commands on the tree name, which rules of their own they have, and what
+-- they do.
+use Rattle.std.proofs.Common.{◌≡◌, ℕ, Bool, true, false, cond, ◌||◌, List, [], ◌∷◌, Option, Some, None, nat_eq, refl, ap, ◌∙◌}
+use Rattle.std.specs.List.{list_any}
+use Rattle.page_tree.specs.Tree.{Forest, has_page}
+use Rattle.site_types.specs.Content.{ContentValue}
+use Rattle.site_types.specs.declared.command.Command.TheVariants.{Create, Move, Delete, SetSlug}
+use Rattle.site_types.specs.declared.position.Position.{Position}
+use Rattle.site_types.specs.declared.refusal.Refusal.{Refusal}
+use Rattle.site_types.specs.declared.refusal.Refusal.TheVariants.{IsRoot}
+use Rattle.tree_model.specs.Places.{is_beside}
+use Rattle.tree_model.proofs.CountLemmas.{apart_by_test}
+use Rattle.site_model.specs.World.{TreePart}
+use Rattle.site_model.specs.Create.{create_rules, create}
+use Rattle.site_model.specs.Delete.{delete}
+use Rattle.site_model.specs.Front.{StopsOthers, StopsNobody, naming, on_page, on_move, row_of, front_rules}
+use Rattle.site_model.specs.Moves.{move_rules, move}
+use Rattle.site_model.specs.Needs.{needs_of}
+use Rattle.site_model.specs.Rules.{refused_if, are_root}
+use Rattle.site_model.specs.Slugs.{slug_rules, set_slug}
+use Rattle.site_model.specs.Step.{rules, effect}
+use Rattle.site_model.proofs.AcceptLemmas.{front_parts, page_found}
+use Rattle.site_model.proofs.ClearLemmas.{test_clear, neither}
+use Rattle.tree_edits.specs.Plans.{IsBelowRoot, NamesMove}
+
+-- the first of pages that are not the root is not
+first_below : (page : ℕ) (pages : List ℕ) → are_root (page ∷ pages) ≡ None →
+    (nat_eq page 1 ≡ false) × (are_root pages ≡ None)
+first_below page pages none =
+    let both = neither (nat_eq page 1) (list_any (λ id. nat_eq id 1) pages)
+    (test_clear (list_any (λ id. nat_eq id 1) (page ∷ pages)) IsRoot none) in
+    (both.0, ap (λ t. refused_if t IsRoot) both.1)
+
+module _ (part : TreePart) (caller : ℕ) where
+  -- the parent of a creation is there
+  pub create_names : (parent : ℕ) (slug : List ℕ) (content : ContentValue) →
+      front_rules part caller (Create parent slug content) ≡ None →
+      has_page parent part.tree ≡ true
+  unfolding front_rules row_of
+  create_names parent slug content none =
+      let parts = front_parts part caller (naming (parent ∷ []) [])
+      (needs_of part caller (Create parent slug content)) none in
+      (page_found part.tree parent [] parts.pages).0
+
+  -- the pages of a move are there
+  pub move_names : (page target : ℕ) (position : Position) →
+      front_rules part caller (Move page target position) ≡ None →
+      NamesMove part.tree page target position
+  unfolding front_rules row_of
+  move_names page target position none =
+      let parts = front_parts part caller (on_move page target position)
+      (needs_of part caller (Move page target position)) none in
+      let first = page_found part.tree page (target ∷ []) parts.pages in
+      let second = page_found part.tree target [] first.1 in
+      let below = by (is_beside position) refl parts.below in
+      (first.0, second.0, below.0, below.1)
+    where
+      by : (beside : Bool) → is_beside position ≡ beside →
+          are_root (cond beside (page ∷ target ∷ []) (page ∷ [])) ≡ None →
+          (page ≡ 1 → ⊥) × (is_beside position ≡ true → target ≡ 1 → ⊥)
+      by true e is =
+          let first = first_below page (target ∷ []) is in
+          let second = first_below target [] first.1 in
+          (apart_by_test page 1 first.0, λ f. apart_by_test target 1 second.0)
+      by false e is =
+          (apart_by_test page 1 (first_below page [] is).0, λ f. absurd (cc))
+
+  -- the page of a deletion is there, and is not the root
+  pub delete_names : (page : ℕ) → front_rules part caller (Delete page) ≡ None →
+      IsBelowRoot part.tree page
+  unfolding front_rules row_of
+  delete_names page none =
+      let parts = front_parts part caller (on_page page StopsOthers false StopsNobody)
+      (needs_of part caller (Delete page)) none in (
+        (page_found part.tree page [] parts.pages).0,
+        apart_by_test page 1 (first_below page [] parts.below).0,
+      )
+
+  -- so is the page of another slug
+  pub slug_names : (page : ℕ) (slug : List ℕ) → front_rules part caller (SetSlug page slug) ≡ None →
+      IsBelowRoot part.tree page
+  unfolding front_rules row_of
+  slug_names page slug none =
+      let parts = front_parts part caller (on_page page StopsOthers false StopsOthers)
+      (needs_of part caller (SetSlug page slug)) none in (
+        (page_found part.tree page [] parts.pages).0,
+        apart_by_test page 1 (first_below page [] parts.below).0,
+      )
+
+module _ (part : TreePart) (desk : Option ContentValue) (now caller : ℕ) where
+  -- a creation
+  pub create_own : (parent : ℕ) (slug : List ℕ) (content : ContentValue) →
+      rules part desk now caller (Create parent slug content)
+      ≡ create_rules part now caller parent slug content
+  unfolding rules
+  create_own parent slug content = refl
+
+  pub create_done : (parent : ℕ) (slug : List ℕ) (content : ContentValue) →
+      effect part desk now caller (Create parent slug content)
+      ≡ create part now caller parent slug content
+  unfolding effect
+  create_done parent slug content = refl
+
+  -- a move
+  pub move_own : (page target : ℕ) (position : Position) →
+      rules part desk now caller (Move page target position)
+      ≡ move_rules part.tree page target position
+  unfolding rules
+  move_own page target position = refl
+
+  pub move_done : (page target : ℕ) (position : Position) →
+      effect part desk now caller (Move page target position) ≡ move part now page target position
+  unfolding effect
+  move_done page target position = refl
+
+  -- a deletion
+  pub delete_own : (page : ℕ) → rules part desk now caller (Delete page) ≡ None
+  unfolding rules
+  delete_own page = refl
+
+  pub delete_done : (page : ℕ) →
+      effect part desk now caller (Delete page) ≡ delete part now page
+  unfolding effect
+  delete_done page = refl
+
+  -- another slug
+  pub slug_own : (page : ℕ) (slug : List ℕ) →
+      rules part desk now caller (SetSlug page slug) ≡ slug_rules part.tree page slug
+  unfolding rules
+  slug_own page slug = refl
+
+  pub slug_done : (page : ℕ) (slug : List ℕ) →
+      effect part desk now caller (SetSlug page slug) ≡ set_slug part now page slug
+  unfolding effect
+  slug_done page slug = refl

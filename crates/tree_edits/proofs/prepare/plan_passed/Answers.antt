@@ -1,0 +1,35 @@
+-- Each command is planned by the function for it.
+use Rattle.std.proofs.Common.{sym, subst}
+use Rattle.site_types.specs.declared.command.Command.{Command}
+use Rattle.site_model.specs.World as worlds
+use Rattle.grants.specs.Plans.{Prepares}
+use Rattle.tree_edits.specs.Plans.{IsAsked}
+use Rattle.tree_edits.proofs.prepare.plan_passed.Goals as goal
+
+pub returns-in-Create-clause-plan : goal.returns-in-Create-clause-plan
+returns-in-Create-clause-plan c = λ world desk asked.
+    subst (λ (command : Command). Prepares world desk c.args.now c.args.caller command
+    c.plan_creation.new.part c.plan_creation.result) (sym c.in-Create.is)
+    (c.plan_creation.ensures.plan world desk
+    (subst (IsAsked c.args.part.now world c.args.caller) c.in-Create.is asked))
+
+pub returns-in-Move-clause-plan : goal.returns-in-Move-clause-plan
+returns-in-Move-clause-plan c = λ world desk asked.
+    subst (λ (command : Command). Prepares world desk c.args.now c.args.caller command
+    c.plan_moving.new.part c.plan_moving.result) (sym c.in-Move.is)
+    (c.plan_moving.ensures.plan world desk c.args.caller
+    (subst (IsAsked c.args.part.now world c.args.caller) c.in-Move.is asked))
+
+pub returns-in-Delete-clause-plan : goal.returns-in-Delete-clause-plan
+returns-in-Delete-clause-plan c = λ world desk asked.
+    subst (λ (command : Command). Prepares world desk c.args.now c.args.caller command
+    c.args.part.now c.plan_deletion.result) (sym c.in-Delete.is)
+    (c.plan_deletion.ensures world desk c.args.caller
+    (subst (IsAsked c.args.part.now world c.args.caller) c.in-Delete.is asked))
+
+pub returns-in-SetSlug-clause-plan : goal.returns-in-SetSlug-clause-plan
+returns-in-SetSlug-clause-plan c = λ world desk asked.
+    subst (λ (command : Command). Prepares world desk c.args.now c.args.caller command
+    c.plan_renaming.new.part c.plan_renaming.result) (sym c.in-SetSlug.is)
+    (c.plan_renaming.ensures.plan world desk c.args.caller
+    (subst (IsAsked c.args.part.now world c.args.caller) c.in-SetSlug.is asked))

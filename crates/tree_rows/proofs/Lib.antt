@@ -1,0 +1,6 @@
+pub mod Lists
+pub mod Apart
+pub mod Paths
+pub mod Block
+pub mod SiteTree
+pub mod SubtreeLemmas

@@ -1,0 +1,48 @@
+-- A command that a request can ask for fits: its slug is by the rule of slugs, its content within
+-- its limits, and its digest has its bytes.
+use Rattle.std.proofs.Common.{◌≡◌, ℕ, true, Ok, refl}
+use Rattle.site_types.specs.declared.command.Command.{Command}
+use Rattle.site_model.specs.Laws.{FitsCommand}
+use Rattle.http_model.specs.Requests.{Request}
+use Rattle.wire_model.specs.declared.call.Call.TheVariants.{Run}
+use Rattle.wire_model.specs.declared.form.CommandForm.{CommandForm}
+use Rattle.wire_model.specs.declared.form.PageVerb.{PageVerb}
+use Rattle.wire_model.specs.declared.form.PageVerb.TheVariants as verbs
+use Rattle.wire_model.specs.Forms.{command_on}
+use Rattle.wire_model.specs.Routes.{call_of}
+use Rattle.wire_model.proofs.AskedLemmas.{HoldsOfForms, asked_is}
+
+-- a command on a page has none of these
+verb_fits : (verb : PageVerb) (page : ℕ) → FitsCommand (command_on verb page)
+verb_fits verbs.Delete page = tt
+verb_fits verbs.Detach page = tt
+verb_fits verbs.OpenDesk page = tt
+verb_fits verbs.ShutDesk page = tt
+verb_fits verbs.Publish page = tt
+verb_fits verbs.Unpublish page = tt
+verb_fits verbs.Unschedule page = tt
+verb_fits verbs.Lock page = tt
+verb_fits verbs.Unlock page = tt
+verb_fits verbs.Purge page = tt
+verb_fits verbs.Submit page = tt
+verb_fits verbs.Approve page = tt
+verb_fits verbs.Reject page = tt
+verb_fits verbs.Cancel page = tt
+
+-- each kind of command fits
+all_fit : HoldsOfForms FitsCommand (λ form. true)
+all_fit = record {
+  creation = λ parent slug content is fits. (is, fits);
+  moving = λ page target position. tt;
+  naming = λ page slug is. is;
+  on_page = λ verb page passed. verb_fits verb page;
+  user = λ digest superuser is. is;
+  group = tt;
+  membership = λ user group on. tt;
+  granting = λ group page permission on. tt;
+}
+
+-- each command that a request can ask for fits
+pub routes_fit : (request : Request) (command : Command) →
+    call_of request ≡ Ok (Run command) → FitsCommand command
+routes_fit = asked_is FitsCommand (λ (form : CommandForm). true) all_fit refl

@@ -1,0 +1,50 @@
+//! The table of routes. The router, the definition of routes and what is built share it: a route is
+//! built where its row has a form.
+use crate::form::{CommandForm, PageVerb, ReadForm};
+
+/// A path to which commands are posted, and the form of their bodies, if the route is built.
+pub type CommandRoute = (&'static str, Option<CommandForm>);
+
+/// The front of paths whose last part names a page, and what is read of it, if the route is built.
+pub type ReadRoute = (&'static str, Option<ReadForm>);
+
+/// The routes of commands.
+pub const COMMAND_ROUTES: [CommandRoute; 30] = [
+    ("/api/pages", Some(CommandForm::Create)),
+    ("/api/move", Some(CommandForm::Move)),
+    ("/api/delete", Some(CommandForm::OnPage(PageVerb::Delete))),
+    ("/api/slug", Some(CommandForm::SetSlug)),
+    ("/api/users", Some(CommandForm::DefineUser)),
+    ("/api/groups", Some(CommandForm::DefineGroup)),
+    ("/api/members", Some(CommandForm::Member)),
+    ("/api/grants", Some(CommandForm::Grant)),
+    ("/api/alias", None),
+    ("/api/detach", None),
+    ("/api/copy", None),
+    ("/api/open", None),
+    ("/api/save", None),
+    ("/api/shut", None),
+    ("/api/file", None),
+    ("/api/publish", None),
+    ("/api/unpublish", None),
+    ("/api/unschedule", None),
+    ("/api/lock", None),
+    ("/api/unlock", None),
+    ("/api/purge", None),
+    ("/api/tasks", None),
+    ("/api/workflows", None),
+    ("/api/assign", None),
+    ("/api/submit", None),
+    ("/api/approve", None),
+    ("/api/reject", None),
+    ("/api/cancel", None),
+    ("/api/tick", None),
+    ("/api/checkpoint", None),
+];
+
+/// The routes of reads.
+pub const READ_ROUTES: [ReadRoute; 3] = [
+    ("/api/pages/", Some(ReadForm::Card)),
+    ("/api/refs/", None),
+    ("/api/desks/", None),
+];

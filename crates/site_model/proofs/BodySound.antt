@@ -14,7 +14,7 @@ use Rattle.site_model.specs.World.{TreePart, time_at}
 use Rattle.site_model.specs.Bodies.{rebodied}
 use Rattle.site_model.specs.Publishing.{lock_rules, lock, unlock, unpublish, unschedule}
 use Rattle.site_model.specs.Sound.{IsBody, IsAliasBody}
-use Rattle.site_model.specs.Laws.{HasNoAlias}
+use Rattle.site_model.specs.Reached.{HasNoAlias}
 use Rattle.site_model.proofs.BodyLemmas.{AllPages-rebodied, tree_rebodied, there-rebodied}
 use Rattle.site_model.proofs.ClearLemmas.{test_clear}
 use Rattle.site_model.proofs.CreationSound.{no_source}

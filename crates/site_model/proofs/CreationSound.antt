@@ -79,7 +79,7 @@ not_new : (next id : ℕ) → id < next → next ≡ id → ⊥
 not_new next id lower same = omega (arith, lower, same)
 
 -- the new page's revision is its own
-own_back : (revisions : List Revision) (revision : Revision) →
+pub own_back : (revisions : List Revision) (revision : Revision) →
     is_own (revisions ++ revision ∷ []) revision.page (Some revision.id) ≡ true
 own_back revisions revision =
     any_back _ revisions (revision ∷ []) (rw (same_id revision.id, same_id revision.page) refl)
@@ -112,14 +112,14 @@ fresh_is part caller revisions other user own last = record {
 }
 
 -- a scheduled revision stays one where more are there
-waits_front : (revisions more : List Revision) (page : ℕ) (scheduled : Option ℕ) →
+pub waits_front : (revisions more : List Revision) (page : ℕ) (scheduled : Option ℕ) →
     IfSome scheduled (λ id. may_wait revisions page id ≡ true) →
     IfSome scheduled (λ id. may_wait (revisions ++ more) page id ≡ true)
 waits_front revisions more page None is = tt
 waits_front revisions more page (Some id) is = any_front _ revisions more is
 
 -- a moderation is one of a longer list
-moderation_front : (revisions more : List Revision) (users next : ℕ) (workflows : List (List ℕ))
+pub moderation_front : (revisions more : List Revision) (users next : ℕ) (workflows : List (List ℕ))
     (page : ℕ) (moderation : Option Moderation) →
     IfSome moderation (FitsModeration revisions users next workflows page) →
     IfSome moderation (FitsModeration (revisions ++ more) users next workflows page)
@@ -153,7 +153,7 @@ alias_front revisions new page body (Some source) other is = record {
 }
 
 -- what is kept of another page, where a revision comes that is not its own
-body_front : (revisions : List Revision) (new : Revision) (users next : ℕ)
+pub body_front : (revisions : List Revision) (new : Revision) (users next : ℕ)
     (workflows : List (List ℕ)) (id : ℕ) (body : Body) → (new.page ≡ id → ⊥) →
     IsBody revisions users next workflows id body →
     IsBody (revisions ++ new ∷ []) users next workflows id body

@@ -1,29 +1,28 @@
 -- A deletion keeps a world sound.
-use Rattle.std.proofs.Common.{◌≡◌, ◌<◌, ◌≤◌, ℕ, Bool, true, false, cond, not, ◌||◌, ◌&&◌, List, [], ◌∷◌, length, filter, Option, Some, None, nat_eq, max, suc, refl, arith}
-use Rattle.std.specs.Prelude.{IfSome}
-use Rattle.std.specs.List.{AllByRecursion, list_any}
+use Rattle.std.proofs.Common.{◌≡◌, ◌<◌, ◌≤◌, ℕ, Bool, true, false, cond, not, List, [], ◌∷◌, length, filter, None, nat_eq, max, suc, refl, arith}
+use Rattle.std.specs.List.{AllByRecursion}
 use Rattle.page_tree.specs.Tree.{Forest, bare, grown, has_page, node_of, without}
 use Rattle.step_path.specs.declared.step.TheConstants.{LAST_STEP}
 use Rattle.site_ids.specs.Moment.{IsMoment}
 use Rattle.site_ids.specs.Slug.{IsSlug}
 use Rattle.site_types.specs.Content.{FitsLimits}
 use Rattle.site_types.specs.declared.body.Body.{Body}
-use Rattle.site_types.specs.declared.moderation.Moderation.{Moderation}
 use Rattle.site_types.specs.declared.revision.Revision.{Revision}
 use Rattle.site_types.specs.declared.world_rows.Grant.{Grant}
 use Rattle.tree_model.specs.Limits.{MAX_URL, height}
 use Rattle.tree_model.specs.Shape.{AllPages}
-use Rattle.tree_model.proofs.CountLemmas.{once, distinct_ids, has_counts, counts_has, none_has, none_counts, either, id_found, cut_counts}
+use Rattle.tree_model.proofs.CountLemmas.{once, distinct_ids, has_counts, counts_has, none_has, none_counts, either, cut_counts}
 use Rattle.tree_model.proofs.PageLemmas.{AllPages-without, AllPages-weaker, AllPages-both, AllPages-counted}
 use Rattle.tree_model.proofs.SiblingLemmas.{AreRising-without, AreWithin-without, SlugsDiffer-without, urls-without}
 use Rattle.tree_model.proofs.WholeLemmas.{whole-without}
 use Rattle.site_model.specs.World.{TreePart}
 use Rattle.site_model.specs.Delete.{without_page}
 use Rattle.site_model.specs.Users.{grant_key}
-use Rattle.site_model.specs.Sound.{IsTree, AreRevisions, IsBody, IsAliasBody, FitsModeration, HasMoments, AreBodies, AreGrants, IsAtMost, IsGiven, IdsRise, is_own, may_wait}
+use Rattle.site_model.specs.Sound.{IsTree, AreRevisions, IsBody, HasMoments, AreBodies, AreGrants, IsGiven, IdsRise}
 use Rattle.site_model.proofs.ContentLemmas.{contents_length-filter}
 use Rattle.site_model.proofs.CreationSound.{no_source}
 use Rattle.site_model.proofs.Groups.{AreGroups}
+use Rattle.site_model.proofs.KeptLemmas.{body_kept}
 use Rattle.site_model.proofs.OrderLemmas.{all_filter}
 use Rattle.site_model.proofs.OrderLemmas as orders
 
@@ -50,23 +49,6 @@ all_kept P Q keep (x ∷ xs) follows all =
     choice true is more = (follows x all.0 is, more)
     choice false is more = more
 
--- what is in a list, and what a test keeps, is in what the test keeps
-any_kept : {X : Type 0} (p keep : X → Bool) (xs : List X) →
-    ((x : X) → p x ≡ true → keep x ≡ true) → list_any p xs ≡ true →
-    list_any p (filter keep xs) ≡ true
-any_kept p keep [] follows is = absurd (cc)
-any_kept p keep (x ∷ xs) follows is =
-    choice (p x) (keep x) refl (follows x) is (any_kept p keep xs follows)
-  where
-    choice : (here kept : Bool) → p x ≡ here → (here ≡ true → kept ≡ true) →
-        (here || list_any p xs) ≡ true →
-        (list_any p xs ≡ true → list_any p (filter keep xs) ≡ true) →
-        list_any p (cond kept (x ∷ filter keep xs) (filter keep xs)) ≡ true
-    choice true true at both h more = rw at refl
-    choice true false at both h more = let no = both refl in absurd (cc)
-    choice false true at both h more = rw at (more h)
-    choice false false at both h more = more h
-
 -- ids that rise from above a number rise from above a lower one
 rise_lower : (lower before : ℕ) (revisions : List Revision) → lower ≤ before →
     IdsRise before revisions → IdsRise lower revisions
@@ -74,7 +56,7 @@ rise_lower lower before [] below rise = tt
 rise_lower lower before (revision ∷ revisions) below rise = (omega (arith, rise.0), rise.1)
 
 -- the ids of revisions that a test keeps rise
-rise_filter : (before : ℕ) (keep : Revision → Bool) (revisions : List Revision) →
+pub rise_filter : (before : ℕ) (keep : Revision → Bool) (revisions : List Revision) →
     IdsRise before revisions → IdsRise before (filter keep revisions)
 rise_filter before keep [] rise = tt
 rise_filter before keep (revision ∷ revisions) rise =
@@ -85,102 +67,18 @@ rise_filter before keep (revision ∷ revisions) rise =
     choice true more = (rise.0, more)
     choice false more = rise_lower before revision.id _ (omega (arith, rise.0)) more
 
--- both of two tests hold
-both_hold : (a b : Bool) → (a && b) ≡ true → (a ≡ true) × (b ≡ true)
-both_hold true b is = (refl, is)
-both_hold false b is = absurd (cc)
-
 -- the kept revisions are those of pages that stay
 abbrev is_kept : Forest Body → Revision → Bool
 is_kept gone revision = not (has_page revision.page gone)
 
--- a page that stays keeps its own revisions
-own_kept : (gone : Forest Body) (revisions : List Revision) (page : ℕ) (choice : Option ℕ) →
-    has_page page gone ≡ false → is_own revisions page choice ≡ true →
-    is_own (filter (is_kept gone) revisions) page choice ≡ true
-own_kept gone revisions page None there is = absurd (cc)
-own_kept gone revisions page (Some id) there is =
-    any_kept (λ (revision : Revision). nat_eq revision.id id && nat_eq revision.page page)
-    (is_kept gone) revisions
-    (λ revision both.
-    let same = id_found revision.page page
-    (both_hold (nat_eq revision.id id) (nat_eq revision.page page) both).1 in
-    rw (same, there) refl) is
-
--- so does the scheduled one
-waits_kept : (gone : Forest Body) (revisions : List Revision) (page : ℕ) (scheduled : Option ℕ) →
-    has_page page gone ≡ false → IfSome scheduled (λ id. may_wait revisions page id ≡ true) →
-    IfSome scheduled (λ id. may_wait (filter (is_kept gone) revisions) page id ≡ true)
-waits_kept gone revisions page None there is = tt
-waits_kept gone revisions page (Some id) there is =
-    any_kept _ (is_kept gone) revisions
-    (λ revision all.
-    let both = both_hold (nat_eq revision.id id) _ all in
-    let own = both_hold (nat_eq revision.page page) _ both.1 in
-    let same = id_found revision.page page own.0 in
-    rw (same, there) refl) is
-
--- and the moderated one
-moderation_kept : (gone : Forest Body) (revisions : List Revision) (users next : ℕ)
-    (workflows : List (List ℕ)) (page : ℕ) (moderation : Option Moderation) →
-    has_page page gone ≡ false →
-    IfSome moderation (FitsModeration revisions users next workflows page) →
-    IfSome moderation
-    (FitsModeration (filter (is_kept gone) revisions) users next workflows page)
-moderation_kept gone revisions users next workflows page None there is = tt
-moderation_kept gone revisions users next workflows page (Some moderation) there is = record {
-  workflow = is.workflow;
-  task_counted = is.task_counted;
-  task_within = is.task_within;
-  revision = own_kept gone revisions page (Some moderation.revision) there is.revision;
-  by = is.by;
-}
-
--- an alias has no revision among fewer
-alias_kept : (keep : Revision → Bool) (revisions : List Revision) (page : ℕ) (body : Body)
-    (source : Option ℕ) → IfSome source (λ one. IsAliasBody revisions page body) →
-    IfSome source (λ one. IsAliasBody (filter keep revisions) page body)
-alias_kept keep revisions page body None is = tt
-alias_kept keep revisions page body (Some source) is = record {
-  no_revision = all_filter (λ (revision : Revision). revision.page ≡ page → ⊥) keep revisions
-      is.no_revision;
-  live = is.live;
-  expired = is.expired;
-  shown = is.shown;
-  latest = is.latest;
-  scheduled = is.scheduled;
-  first_published = is.first_published;
-  last_published = is.last_published;
-  locked_by = is.locked_by;
-  moderation = is.moderation;
-}
-
 -- what is kept of a page that stays
-body_kept : (gone : Forest Body) (revisions : List Revision) (users next : ℕ)
+page_stays : (gone : Forest Body) (revisions : List Revision) (users next : ℕ)
     (workflows : List (List ℕ)) (id : ℕ) (body : Body) → has_page id gone ≡ false →
     IsBody revisions users next workflows id body →
     IsBody (filter (is_kept gone) revisions) users next workflows id body
-body_kept gone revisions users next workflows id body there is = record {
-  root = is.root;
-  regular = λ below regular.
-      let own = is.regular below regular in
-      record {
-        shown = own_kept gone revisions id body.shown there own.shown;
-        latest = own_kept gone revisions id body.latest there own.latest;
-        last = all_filter
-            (λ (revision : Revision). revision.page ≡ id → IsAtMost revision.id body.latest)
-            (is_kept gone) revisions own.last;
-        scheduled = waits_kept gone revisions id body.scheduled there own.scheduled;
-      };
-  alias = alias_kept (is_kept gone) revisions id body body.source is.alias;
-  owner = is.owner;
-  lock = is.lock;
-  assigned = is.assigned;
-  moderation = moderation_kept gone revisions users next workflows id body.moderation there
-      is.moderation;
-  first_published = is.first_published;
-  last_published = is.last_published;
-}
+page_stays gone revisions users next workflows id body there is =
+    body_kept (is_kept gone) revisions users next workflows id body
+    (λ revision same needed. rw (same, there) refl) is
 
 -- the tree that is left
 tree_left : (pages : Forest Body) (next page : ℕ) → IsTree pages next → (1 ≡ page → ⊥) →
@@ -263,7 +161,7 @@ bodies_left part page sound regular =
       bodies = AllPages-both
           (λ id slug body. IsBody part.revisions part.next_user part.next_workflow part.workflows
           id body) (λ id slug body. has_page id gone ≡ false) _ left
-          (λ id slug body is there. body_kept gone part.revisions part.next_user
+          (λ id slug body is there. page_stays gone part.revisions part.next_user
           part.next_workflow part.workflows id body there is)
           (AllPages-without _ page tree sound.bodies.bodies)
           (AllPages-counted (λ id. has_page id gone ≡ false) left (λ j some.

@@ -1,5 +1,4 @@
--- Desks, filing, publishing, locks and purges at worked values: their own rules and effects, which
--- stand though no request asks for them yet.
+-- Desks, filing, publishing, locks and purges at worked values: their own rules and effects.
 use Rattle.std.proofs.Common.{◌≡◌, ℕ, true, false, List, [], ◌∷◌, refl, codes, Option, Some, None, Ok, Err}
 use Rattle.site_types.specs.Content.{ContentValue}
 use Rattle.site_types.specs.declared.command.Command.{Command}

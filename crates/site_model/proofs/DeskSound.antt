@@ -1,22 +1,27 @@
--- The desks that stay open after a command are as they should be.
-use Rattle.std.proofs.Common.{◌≡◌, ◌<◌, ℕ, Bool, true, false, cond, not, ◌||◌, List, [], ◌∷◌, length, map, filter, Option, Some, None, refl, sym, ap, subst, ◌∙◌, arith}
+-- The desks that are open after a command are as they should be.
+use Rattle.std.proofs.Common.{◌≡◌, ◌<◌, ◌≤◌, ℕ, Bool, true, false, cond, not, ◌||◌, List, [], ◌∷◌, length, map, filter, Option, Some, None, refl, sym, ap, subst, ◌∙◌, arith}
+use Rattle.std.specs.Prelude.{IfSome}
 use Rattle.std.specs.List.{AllByRecursion}
 use Rattle.std.specs.Option.{option_map}
 use Rattle.page_tree.specs.Tree.{Forest, has_page}
-use Rattle.site_types.specs.Content.{ContentValue}
+use Rattle.page_tree.specs.Rows.{comes_before}
+use Rattle.site_types.specs.Content.{FitsLimits}
 use Rattle.site_types.specs.declared.body.Body.{Body}
 use Rattle.tree_model.proofs.CountLemmas.{none_counts, node_absent}
 use Rattle.tree_model.proofs.PageLemmas.{AllPages-weaker, all_weaker}
-use Rattle.site_model.specs.World.{DeskPair, Desk, TreePart, Deed, Effect, pair_of}
+use Rattle.site_model.specs.World.{DeskPair, Desk, TreePart, Deed, pair_of}
+use Rattle.site_model.specs.Limits.{MAX_DESKS}
 use Rattle.site_model.specs.Rights.{rights_of, above_of}
 use Rattle.site_model.specs.Views.{View, first_body, view_of}
-use Rattle.site_model.specs.Desks.{desk_key, desk_opened, is_shut, is_ended, keeps_desk, stays, settled}
-use Rattle.site_model.specs.Sound.{KeysRise, AreDesks, IsRegular}
-use Rattle.site_model.specs.Laws.{HasNoAlias}
+use Rattle.site_model.specs.Users.{put_in}
+use Rattle.site_model.specs.Desks.{desk_key, desk_opened, is_shut, with_pair, with_desk, is_ended, keeps_desk, stays, settled}
+use Rattle.site_model.specs.Sound.{KeysRise, AreDesks, IsRegular, IsSoundPart}
+use Rattle.site_model.specs.Reached.{HasNoAlias}
+use Rattle.site_model.proofs.Deeds.{MayOpen, KeepsSound}
 use Rattle.site_model.proofs.DeletionSound.{shorter}
 use Rattle.site_model.proofs.DeskLemmas.{settled_stay}
-use Rattle.site_model.proofs.OrderLemmas.{all_filter, rise_filter}
-use Rattle.site_model.proofs.StepSound.{KeepsSound}
+use Rattle.site_model.proofs.Groups as groups
+use Rattle.site_model.proofs.OrderLemmas.{all_put, rise_put, length-put_in, all_filter, rise_filter}
 use Rattle.site_model.proofs.ViewLemmas.{seen, view_is}
 
 -- of nothing that is seen nobody keeps a desk
@@ -69,33 +74,11 @@ map_filter keep (desk ∷ desks) = choice (keep (pair_of desk)) (map_filter keep
     choice true more = ap (λ (pairs : List DeskPair). pair_of desk ∷ pairs) more
     choice false more = more
 
--- a command that opens no desk opens none at any page
-pub none_opened : (caller : ℕ) (page : Option ℕ) (deed : Deed) → deed.opened ≡ None →
-    desk_opened caller page deed.opened ≡ None
-none_opened caller page deed is = choice page deed.opened is
-  where
-    choice : (at : Option ℕ) (text : Option ContentValue) → text ≡ None →
-        desk_opened caller at text ≡ None
-    choice None text e = refl
-    choice (Some id) None e = refl
-    choice (Some id) (Some text) e = absurd (cc)
-
--- the desks that end, where none is opened
-abbrev pub ended_of : ℕ → Option ℕ → Deed → List DeskPair
-ended_of caller page deed =
+-- the desks that end
+abbrev pub ended_pairs : ℕ → Option ℕ → Deed → List DeskPair
+ended_pairs caller page deed =
     filter (λ pair. is_shut deed.shut caller page pair || not (stays deed.part pair))
-    deed.part.desk_pairs
-
--- the part after a command that opens no desk
-pub settled_plain : (caller : ℕ) (page : Option ℕ) (deed : Deed) → deed.opened ≡ None →
-    settled caller page deed ≡ (
-      record deed.part {
-        desk_pairs = filter (λ pair. not (is_ended (ended_of caller page deed) pair))
-            deed.part.desk_pairs;
-      },
-      record { reply = deed.reply; opened = None; ended = ended_of caller page deed },
-    )
-settled_plain caller page deed opened = rw (none_opened caller page deed opened) refl
+    (with_pair (desk_opened caller page deed.opened) deed.part.desk_pairs)
 
 -- what two facts of an element give holds of each
 both_all : {X : Type 0} (P Q R : X → Type 0) (xs : List X) → ((x : X) → P x → Q x → R x) →
@@ -103,41 +86,108 @@ both_all : {X : Type 0} (P Q R : X → Type 0) (xs : List X) → ((x : X) → P 
 both_all P Q R [] both p q = tt
 both_all P Q R (x ∷ xs) both p q = (both x p.0 q.0, both_all P Q R xs both p.1 q.1)
 
--- the desks of a sound part after a command that opens none
-pub settled_desks : (part : TreePart) (caller : ℕ) (page : Option ℕ) (deed : Deed) →
-    AreDesks part → KeepsSound part deed →
-    AreDesks (record deed.part {
-      desk_pairs = filter (λ pair. not (is_ended (ended_of caller page deed) pair))
-          deed.part.desk_pairs;
-    })
-settled_desks part caller page deed desks kept =
-    let keep = λ (pair : DeskPair). not (is_ended (ended_of caller page deed) pair) in
-    let pairs = deed.part.desk_pairs in
-    let stay = subst (λ (made : TreePart × Effect).
-    AllByRecursion (λ (pair : DeskPair). stays made.0 pair ≡ true) made.0.desk_pairs)
-    (settled_plain caller page deed kept.opened) (settled_stay caller page deed) in
-    let below = all_filter (λ (pair : DeskPair). pair.page ≡ 1 → ⊥) keep pairs
-    (subst (λ (list : List DeskPair). AllByRecursion (λ (pair : DeskPair). pair.page ≡ 1 → ⊥) list)
-    (sym kept.pairs)
-    (all_weaker (λ (pair : DeskPair). IsRegular part.tree pair.page)
-    (λ (pair : DeskPair). pair.page ≡ 1 → ⊥) part.desk_pairs (λ pair is. is.0)
-    desks.desks_regular)) in
+-- Open desks that are in order, of which nobody has looked yet whether they stay.
+record ArePairs (users : ℕ) (pairs : List DeskPair) : Type 0 where
+  rise : KeysRise desk_key pairs
+  fit : length pairs ≤ MAX_DESKS
+  of_users : AllByRecursion (λ (pair : DeskPair). pair.user < users) pairs
+  below : AllByRecursion (λ (pair : DeskPair). pair.page ≡ 1 → ⊥) pairs
+
+-- the desks of a sound part are, also where there are more users
+old_pairs : (part : TreePart) (users : ℕ) → AreDesks part → part.next_user ≤ users →
+    ArePairs users part.desk_pairs
+old_pairs part users desks more = record {
+  rise = desks.desks_rise;
+  fit = desks.desks_fit;
+  of_users = all_weaker (λ (pair : DeskPair). pair.user < part.next_user)
+      (λ (pair : DeskPair). pair.user < users) part.desk_pairs
+      (λ pair lower. omega (arith, lower, more)) desks.desk_users;
+  below = all_weaker (λ (pair : DeskPair). IsRegular part.tree pair.page)
+      (λ (pair : DeskPair). pair.page ≡ 1 → ⊥) part.desk_pairs (λ pair is. is.0)
+      desks.desks_regular;
+}
+
+-- so are they with one more that may be opened
+with_opened : (part : TreePart) (users : ℕ) (opened : Option Desk) → AreDesks part →
+    part.next_user ≤ users → IfSome opened (MayOpen part) →
+    ArePairs users (with_pair opened part.desk_pairs)
+with_opened part users None desks more may = old_pairs part users desks more
+with_opened part users (Some desk) desks more may =
+    let old = old_pairs part users desks more in
+    let new = pair_of desk in
+    let pairs = part.desk_pairs in
     record {
-      desks_rise = rise_filter desk_key keep pairs
-          (subst (λ (list : List DeskPair). KeysRise desk_key list) (sym kept.pairs)
-          desks.desks_rise);
-      desks_fit =
-          let fewer = shorter keep pairs in
-          let same = ap (λ (list : List DeskPair). length list) kept.pairs in
-          omega (arith, fewer, same, desks.desks_fit);
+      rise = rise_put desk_key new pairs
+          (all_weaker (λ (pair : DeskPair). pair.page ≡ desk.page → ⊥)
+          (λ (pair : DeskPair). desk_key pair ≡ desk_key new → ⊥) pairs
+          (λ pair free same. free (same_key pair.page desk.page same)) may.free) old.rise;
+      fit = let longer = length-put_in desk_key new pairs in omega (arith, longer, may.room);
+      of_users = all_put (λ (pair : DeskPair). pair.user < users) desk_key new pairs
+          (omega (arith, may.user, more)) old.of_users;
+      below = all_put (λ (pair : DeskPair). pair.page ≡ 1 → ⊥) desk_key new pairs may.below
+          old.below;
+    }
+  where
+    same_key : (x y : ℕ) → x ∷ [] ≡ y ∷ [] → x ≡ y
+    same_key x y e = cc
+
+-- the desks of a sound part after a command
+pub settled_desks : (part : TreePart) (caller : ℕ) (page : Option ℕ) (deed : Deed) →
+    AreDesks part → KeepsSound part caller page deed → AreDesks (settled caller page deed).0
+settled_desks part caller page deed desks kept =
+    let opened = desk_opened caller page deed.opened in
+    let pairs = with_pair opened deed.part.desk_pairs in
+    let keep = λ (pair : DeskPair). not (is_ended (ended_pairs caller page deed) pair) in
+    let all = subst (λ (list : List DeskPair). ArePairs deed.part.next_user (with_pair opened list))
+    (sym kept.pairs)
+    (with_opened part deed.part.next_user opened desks kept.users kept.opened) in
+    let stay = settled_stay caller page deed in
+    record {
+      desks_rise = rise_filter desk_key keep pairs all.rise;
+      desks_fit = let fewer = shorter keep pairs in omega (arith, fewer, all.fit);
       desk_users = all_filter (λ (pair : DeskPair). pair.user < deed.part.next_user) keep pairs
-          (subst (λ (list : List DeskPair). AllByRecursion
-          (λ (pair : DeskPair). pair.user < deed.part.next_user) list) (sym kept.pairs)
-          (all_weaker (λ (pair : DeskPair). pair.user < part.next_user)
-          (λ (pair : DeskPair). pair.user < deed.part.next_user) part.desk_pairs
-          (λ pair lower. omega (arith, lower, kept.users)) desks.desk_users));
+          all.of_users;
       desks_stay = stay;
       desks_regular = both_all _ (λ (pair : DeskPair). pair.page ≡ 1 → ⊥) _ (filter keep pairs)
           (λ pair is other. regular_desk deed.part pair.page kept.regular other
-          (desk_has_page deed.part pair is)) stay below;
+          (desk_has_page deed.part pair is)) stay
+          (all_filter (λ (pair : DeskPair). pair.page ≡ 1 → ⊥) keep pairs all.below);
     }
+
+-- a sound part stays one
+pub settled_sound : (part : TreePart) (caller : ℕ) (page : Option ℕ) (deed : Deed) →
+    IsSoundPart part → KeepsSound part caller page deed →
+    IsSoundPart (settled caller page deed).0
+settled_sound part caller page deed sound kept =
+    groups.with_desks deed.part
+    (filter (λ pair. not (is_ended (ended_pairs caller page deed) pair))
+    (with_pair (desk_opened caller page deed.opened) deed.part.desk_pairs)) kept.sound
+    (settled_desks part caller page deed sound.desks kept)
+
+-- the desks with one more are those pairs with one more
+pub pairs_opened : (opened : Option Desk) (desks : List Desk) →
+    map pair_of (with_desk opened desks) ≡ with_pair opened (map pair_of desks)
+pairs_opened None desks = refl
+pairs_opened (Some desk) [] = refl
+pairs_opened (Some desk) (first ∷ desks) =
+    choice (comes_before (desk_key (pair_of desk)) (desk_key (pair_of first)))
+    (pairs_opened (Some desk) desks)
+  where
+    choice : (t : Bool) →
+        map pair_of (put_in (λ (one : Desk). desk_key (pair_of one)) desk desks)
+        ≡ put_in desk_key (pair_of desk) (map pair_of desks) →
+        map pair_of (cond t (desk ∷ first ∷ desks)
+        (first ∷ put_in (λ (one : Desk). desk_key (pair_of one)) desk desks))
+        ≡ cond t (pair_of desk ∷ pair_of first ∷ map pair_of desks)
+        (pair_of first ∷ put_in desk_key (pair_of desk) (map pair_of desks))
+    choice true more = refl
+    choice false more = ap (λ (pairs : List DeskPair). pair_of first ∷ pairs) more
+
+-- texts within their limits stay so with that of a desk that may be opened
+pub texts_opened : (part : TreePart) (opened : Option Desk) (desks : List Desk) →
+    IfSome opened (MayOpen part) → AllByRecursion (λ (desk : Desk). FitsLimits desk.text) desks →
+    AllByRecursion (λ (desk : Desk). FitsLimits desk.text) (with_desk opened desks)
+texts_opened part None desks may texts = texts
+texts_opened part (Some desk) desks may texts =
+    all_put (λ (one : Desk). FitsLimits one.text) (λ (one : Desk). desk_key (pair_of one)) desk
+    desks may.fits texts

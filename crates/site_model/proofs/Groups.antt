@@ -1,5 +1,5 @@
 -- What is sound of a tree part, its desks aside.
-use Rattle.std.proofs.Common.{List, [], arith}
+use Rattle.std.proofs.Common.{List}
 use Rattle.site_ids.specs.Moment.{IsMoment}
 use Rattle.site_model.specs.World.{DeskPair, TreePart}
 use Rattle.site_model.specs.Sound.{IsTree, AreRevisions, AreBodies, ArePeople, AreTasks, AreGrants, AreDesks, IsSoundPart}
@@ -40,14 +40,4 @@ with_desks part pairs groups desks = record {
   tasks = groups.tasks;
   grants = groups.grants;
   desks = desks;
-}
-
--- where no desk is open, all desks are as they should be
-pub no_desks : (part : TreePart) → AreDesks (record part { desk_pairs = [] })
-no_desks part = record {
-  desks_rise = tt;
-  desks_fit = omega arith;
-  desk_users = tt;
-  desks_stay = tt;
-  desks_regular = tt;
 }

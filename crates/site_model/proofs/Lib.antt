@@ -6,7 +6,9 @@ pub mod RoomLemmas
 pub mod FullLemmas
 pub mod AcceptLemmas
 pub mod Groups
+pub mod Deeds
 pub mod StrangerLemmas
+pub mod KeptLemmas
 pub mod StartLemmas
 pub mod CreationSound
 pub mod DeletionSound
@@ -14,27 +16,49 @@ pub mod MoveSound
 pub mod SlugSound
 pub mod PeopleSound
 pub mod GrantSound
-pub mod StepSound
-pub mod DeskSound
-pub mod PlainLemmas
-pub mod WorldSound
 pub mod BodyLemmas
 pub mod BodySound
 pub mod PublishSound
+pub mod PurgeSound
+pub mod OpenSound
+pub mod FileSound
+pub mod DraftSound
+pub mod StepSound
+pub mod ViewLemmas
+pub mod DeskLemmas
+pub mod DeskSound
+pub mod WorldSound
+pub mod SettledLemmas
 pub mod StripeLemmas
 pub mod PartLemmas
 pub mod AloneLemmas
 pub mod ReachedSound
-pub mod ViewLemmas
 pub mod RightLemmas
-pub mod DeskLemmas
-pub mod DraftLemmas
+pub mod EditNeedLemmas
+pub mod DenialLemmas
 pub mod SuperLemmas
 pub mod CreateLemmas
+pub mod LosingTrees
+pub mod LosingRights
+pub mod LosingLemmas
+pub mod LosingBodies
+pub mod LosingPeople
+pub mod LosingStages
+pub mod LosingPages
+pub mod LosingWork
+pub mod LosingNames
+pub mod LosingOpen
+pub mod LosingSteps
+pub mod LosingMoves
+pub mod LosingFacts
+pub mod LosingMoved
+pub mod LosingEnds
 mod Sites
 mod Examples
 mod UserExamples
 mod NeedExamples
 mod DeskExamples
+mod StepExamples
 mod LaterExamples
 mod SoundExamples
+mod LosingExamples

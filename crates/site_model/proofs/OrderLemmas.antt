@@ -1,5 +1,5 @@
 -- Lists that rise by their keys: one item more in its place, and what a test keeps.
-use Rattle.std.proofs.Common.{◌≡◌, ℕ, Bool, true, false, cond, nat_eq, nat_lt, List, [], ◌∷◌, filter, refl, sym, arith}
+use Rattle.std.proofs.Common.{◌≡◌, ◌+◌, ℕ, Bool, true, false, cond, nat_eq, nat_lt, List, [], ◌∷◌, length, filter, refl, sym, arith}
 use Rattle.std.proofs.lemmas.Bool.Decides.{nat_tests}
 use Rattle.std.specs.List.{AllByRecursion}
 use Rattle.page_tree.specs.Rows.{comes_before}
@@ -50,6 +50,19 @@ module _ {Item : Type 0} where
           AllByRecursion P (cond t (new ∷ item ∷ items) (item ∷ put_in key new items))
       choice true more = (one, all)
       choice false more = (all.0, more)
+
+  -- with one more in its place there is one more
+  pub length-put_in : (key : Item → List ℕ) (new : Item) (items : List Item) →
+      length (put_in key new items) ≡ length items + 1
+  length-put_in key new [] = refl
+  length-put_in key new (item ∷ items) =
+      choice (comes_before (key new) (key item)) (length-put_in key new items)
+    where
+      choice : (t : Bool) → length (put_in key new items) ≡ length items + 1 →
+          length (cond t (new ∷ item ∷ items) (item ∷ put_in key new items))
+          ≡ length (item ∷ items) + 1
+      choice true more = omega arith
+      choice false more = omega (arith, more)
 
   -- keys rise with one more in its place, where no item has its key
   pub rise_put : (key : Item → List ℕ) (new : Item) (items : List Item) →

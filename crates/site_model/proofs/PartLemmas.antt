@@ -85,7 +85,7 @@ saved_stays number page before after reply caller at text is done away =
     )
 
 -- the part that saving leaves is the one before it
-saved_part : (before after : World) (reply : Reply) (caller at : ℕ) (text : ContentValue) →
+pub saved_part : (before after : World) (reply : Reply) (caller at : ℕ) (text : ContentValue) →
     save before caller at text ≡ Ok (after, reply) → after.part ≡ before.part
 saved_part before after reply caller at text done =
     let both = not_refused (no_desk (own_text before.desks caller (Some at)))

@@ -20,7 +20,7 @@ use Rattle.site_model.specs.Bodies.{revision_with, latest_of, is_after}
 use Rattle.site_model.specs.Moderations.{WasPublished, moved_on, at_status, after_publishing}
 use Rattle.site_model.specs.Publishing.{published_body, publish}
 use Rattle.site_model.specs.Sound.{IdsRise, HasOwn, FitsModeration, is_own, may_wait}
-use Rattle.site_model.specs.Laws.{HasNoAlias}
+use Rattle.site_model.specs.Reached.{HasNoAlias}
 use Rattle.site_model.proofs.BodySound.{IsKept, no_alias, body_keeps_sound}
 use Rattle.site_model.proofs.Groups.{AreGroups}
 
@@ -281,21 +281,26 @@ published_fits part page moment revision body below is latest kept none =
       last_published = is;
     }
 
--- to publish or to schedule changes no page's source
-same_source : (moment : ℕ) (revision : Revision) (body : Body) → body.source ≡ None →
-    (published_body moment revision body).source ≡ None
-same_source moment revision body is = choice (is_after moment revision.go_live)
+-- to publish or to schedule changes neither a page's source nor its workflow
+pub same_kind : (moment : ℕ) (revision : Revision) (body : Body) →
+    ((published_body moment revision body).source ≡ body.source)
+    × ((published_body moment revision body).workflow ≡ body.workflow)
+same_kind moment revision body = choice (is_after moment revision.go_live)
   where
-    choice : (t : Bool) → (cond t (record body { scheduled = Some revision.id }) (record body {
+    after : Bool → Body
+    after t = cond t (record body { scheduled = Some revision.id }) (record body {
       live = true;
       expired = false;
       shown = Some revision.id;
       scheduled = None;
       first_published = option_or body.first_published (Some moment);
       last_published = Some moment;
-    })).source ≡ None
-    choice true = is
-    choice false = is
+    })
+
+    choice : (t : Bool) →
+        ((after t).source ≡ body.source) × ((after t).workflow ≡ body.workflow)
+    choice true = (refl, refl)
+    choice false = (refl, refl)
 
 -- to publish the latest revision of a page, or to schedule it, keeps a world sound
 pub publish_keeps_sound : (part : TreePart) (now page : ℕ) (revision : Revision) →
@@ -308,6 +313,6 @@ publish_keeps_sound part now page revision sound regular moment below is =
     (λ body. record (published_body (time_at part now) revision body) {
       moderation = after_publishing body.moderation;
     }) sound regular moment
-    (λ body none. same_source (time_at part now) revision body none)
+    (λ body none. (same_kind (time_at part now) revision body).0 ∙ none)
     (λ body kept none. published_fits part page (time_at part now) revision body below at latest
     kept none)

@@ -1,10 +1,10 @@
 -- Worlds that are sound, and some that are not, each by the one fact that it breaks.
-use Rattle.std.proofs.Common.{◌≡◌, ℕ, true, List, [], ◌∷◌, refl, codes, Some, None, arith}
+use Rattle.std.proofs.Common.{◌≡◌, ℕ, true, List, [], ◌∷◌, refl, codes, Some, None, Ok, arith}
 use Rattle.site_ids.specs.Slug.{IsSlug}
 use Rattle.site_types.specs.Content.{FitsLimits}
 use Rattle.site_types.specs.declared.body.Body.{Body}
-use Rattle.site_types.specs.declared.command.Command.TheVariants.{Create}
-use Rattle.site_model.specs.World.{TreePart}
+use Rattle.site_types.specs.declared.command.Command.TheVariants.{Create, File, Publish}
+use Rattle.site_model.specs.World.{TreePart, Effect}
 use Rattle.site_model.specs.Start.{new_part}
 use Rattle.site_model.specs.Needs.{needs_of}
 use Rattle.site_model.specs.Front.{row_of, front_rules}
@@ -44,10 +44,10 @@ home_fits = record {
 with_home_is_reached : IsReachedPart with_home
 unfolding step_by needs_of front_rules row_of rules effect desk_page
 with_home_is_reached =
-    (step_by_keeps_reached (new_part digest) with_home _ None 100 1
+    step_by_keeps_reached (new_part digest) with_home _ None 100 1
     (Create 1 (codes "home") (titled (codes "Home")))
     (record { sound = new_part_is_sound digest refl; none_yet = new_part_has_none digest })
-    (omega arith) (home_is_slug, home_fits) refl).0
+    (omega arith) (home_is_slug, home_fits) tt refl
 
 -- that page with another body
 abbrev with_body : (Body → Body) → TreePart
@@ -139,3 +139,17 @@ no_second_desk :
       desk_pairs = record { page = 2; user = 1 } ∷ record { page = 2; user = 1 } ∷ [];
     }) → ⊥
 no_second_desk sound = let rise = sound.desks.desks_rise.0.0 in absurd (cc)
+
+-- a text that is filed at no open desk leaves no sound part: so a step asks for the desk
+no_desk_to_file :
+    IsSoundPart (effect with_home (Some (titled (codes "z"))) 100 1 (File 9 None None)).part → ⊥
+unfolding effect
+no_desk_to_file sound = let there = sound.revisions.revisions_have_pages.1.0 in absurd (cc)
+
+-- a site whose one page is published is reached
+with_live_home_is_reached : (after : TreePart) (told : Effect) →
+    step_by with_home None 100 1 (Publish 2) ≡ Ok (after, told) → IsReachedPart after
+unfolding desk_page
+with_live_home_is_reached after told is =
+    step_by_keeps_reached with_home after told None 100 1 (Publish 2) with_home_is_reached
+    (omega arith) tt tt is

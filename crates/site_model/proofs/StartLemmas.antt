@@ -94,24 +94,9 @@ new_part_is_sound digest fits = record {
 -- nothing is there that no command makes yet
 pub new_part_has_none : (digest : List ℕ) → HasNoneYet (new_part digest)
 new_part_has_none digest = record {
-  drafts = (
-    record {
-      no_alias = refl;
-      not_live = refl;
-      not_expired = refl;
-      never_published = refl;
-      not_published = refl;
-      no_schedule = refl;
-      no_lock = refl;
-      no_workflow = refl;
-      no_moderation = refl;
-      shows_latest = refl;
-    },
-    tt,
-    tt,
-  );
-  plain = tt;
-  no_desk = refl;
+  no_alias = (refl, tt, tt);
+  no_page_workflow = (refl, tt, tt);
+  no_moderation = (refl, tt, tt);
   no_task = refl;
   no_workflow = refl;
 }

@@ -1,16 +1,18 @@
 -- Who is no user holds nothing, so that whoever may do something is one.
-use Rattle.std.proofs.Common.{◌≡◌, ◌<◌, ◌≤◌, ℕ, zero, suc, Bool, true, false, cond, nat_eq, nat_lt, ◌⊎◌, List, [], ◌∷◌, length, filter, None, inl, inr, refl, arith}
+use Rattle.std.proofs.Common.{◌≡◌, ◌<◌, ◌≤◌, ℕ, zero, suc, Bool, true, false, cond, nat_eq, nat_lt, ◌⊎◌, List, [], ◌∷◌, length, filter, Option, Some, None, inl, inr, refl, arith}
 use Rattle.std.specs.List.{AllByRecursion, list_any}
 use Rattle.std.proofs.lemmas.Bool.Decides.{nat_tests}
 use Rattle.site_types.specs.declared.permission.Permission.{Permission}
+use Rattle.site_types.specs.declared.permission.Permission.TheVariants.{Change}
 use Rattle.site_types.specs.declared.world_rows.UserRow.{UserRow}
 use Rattle.site_types.specs.declared.world_rows.Member.{Member}
 use Rattle.site_types.specs.declared.world_rows.Grant.{Grant}
 use Rattle.site_model.specs.World.{TreePart}
 use Rattle.std.specs.Option.{option_map}
 use Rattle.site_types.specs.declared.refusal.Refusal.TheVariants.{Denied}
-use Rattle.site_model.specs.Rights.{permission_number, user_at, is_superuser, groups_of, has_group, permits, above_of, has}
-use Rattle.site_model.specs.Needs.{unless_met, first_unmet, need_at, denied}
+use Rattle.site_model.specs.Rights.{permission_number, user_at, is_superuser, groups_of, has_group, rights_of, permits, above_of, has}
+use Rattle.site_model.specs.Views.{View, Stage, view_of, meets, moderates, may_edit}
+use Rattle.site_model.specs.Needs.{unless_met, first_unmet, need_at, edit_needs, denied}
 use Rattle.site_model.specs.Sound.{NamesBoth, ArePeople}
 
 -- past the last user there is none
@@ -64,6 +66,25 @@ stranger_holds_nothing part user page permission people past =
     )
     (nothing_held permission (above_of part.tree page))
 
+-- who is in no group is asked by no task
+asked_by_none : (user : ℕ) (stage : Option Stage) →
+    moderates (record { user = user; super = false; groups = []; granted = [] }) stage ≡ false
+asked_by_none user None = refl
+asked_by_none user (Some stage) = refl
+
+-- and may edit nothing
+stranger_edits_nothing : (part : TreePart) (user : ℕ) (view : View) →
+    ArePeople part.users part.members part.next_user part.next_group → part.next_user ≤ user →
+    may_edit (rights_of part user) view ≡ false
+stranger_edits_nothing part user view people past =
+    rw (
+      stranger_is_not_super part user people past,
+      no_groups part.next_user part.next_group user part.members past people.members_name,
+      none_granted part.grants,
+      nothing_held Change view.above,
+    )
+    (asked_by_none user view.stage)
+
 -- one number is below another or not
 below_or_not : (a b : ℕ) → (a < b) ⊎ (b ≤ a)
 below_or_not a b = choice (nat_lt a b) refl
@@ -91,3 +112,25 @@ maker_is_user part user page permission people may =
     refused true held a b is = absurd (cc)
     refused false true a b is = absurd (cc)
     refused false false a b is = absurd (cc)
+
+-- whoever is not denied to edit a page is a user
+pub editor_is_user : (part : TreePart) (user page : ℕ) →
+    ArePeople part.users part.members part.next_user part.next_group →
+    denied part user (edit_needs part user page) ≡ None → user < part.next_user
+editor_is_user part user page people may =
+    elim (below_or_not user part.next_user) [
+      | inl below ↦ below
+      | inr past ↦
+          refused (is_superuser part.users user) (view_of part page)
+          (stranger_is_not_super part user people past)
+          (λ view. stranger_edits_nothing part user view people past) may
+    ]
+  where
+    refused : (super : Bool) (view : Option View) → super ≡ false →
+        ((seen : View) → may_edit (rights_of part user) seen ≡ false) →
+        option_map Denied (cond super None (first_unmet
+        (unless_met (meets (may_edit (rights_of part user)) view) (permission_number Change) ∷ [])))
+        ≡ None → user < part.next_user
+    refused true view a b is = absurd (cc)
+    refused false None a b is = absurd (cc)
+    refused false (Some view) a b is = let no = rw (b view) at is in absurd (cc)

@@ -1,6 +1,6 @@
 -- A superuser meets every need, and no rule but that of needs says that one is not met.
 use Rattle.std.proofs.Common.{◌≡◌, ℕ, Bool, true, false, cond, not, ◌||◌, bytes_eq, List, [], ◌∷◌, length, Option, Some, None, Result, Err, nat_eq, nat_lt, refl, sym, ap, ◌∙◌}
-use Rattle.std.specs.List.{AllByRecursion, list_any}
+use Rattle.std.specs.List.{list_any}
 use Rattle.std.specs.Option.{option_map, option_and_then, is_some}
 use Rattle.page_tree.specs.Tree.{Forest, has_page, kids_of, kid_with_slug, without}
 use Rattle.page_tree.specs.Rows.{Row, rows_of}
@@ -10,19 +10,18 @@ use Rattle.site_ids.specs.declared.ids.TheConstants.{LAST_PAGE_ID, LAST_REVISION
 use Rattle.site_types.specs.Content.{ContentValue}
 use Rattle.site_types.specs.declared.body.Body.{Body}
 use Rattle.site_types.specs.declared.command.Command.{Command}
-use Rattle.site_types.specs.declared.command.Command.TheVariants.{Create, Move, Delete, SetSlug, DefineUser, DefineGroup, Member, Grant}
+use Rattle.site_types.specs.declared.command.Command.TheVariants.{Create, Move, Delete, SetSlug, OpenDesk, SaveDesk, ShutDesk, File, Publish, Unpublish, Lock, Unlock, Purge, DefineUser, DefineGroup, Member, Grant}
 use Rattle.site_types.specs.declared.permission.Permission.{Permission}
 use Rattle.site_types.specs.declared.position.Position.{Position}
 use Rattle.site_types.specs.declared.refusal.NameKind.TheVariants as kinds
 use Rattle.site_types.specs.declared.refusal.Refusal.{Refusal}
-use Rattle.site_types.specs.declared.refusal.Refusal.TheVariants.{Denied, NothingNew, NoPage, IsRoot, SlugTaken, IsAlias, IntoItself, StepsFull, TooDeep, UrlTooLong, IdsFull, NoName, ContentFull}
+use Rattle.site_types.specs.declared.refusal.Refusal.TheVariants.{Denied, NothingNew, NoPage, IsRoot, SlugTaken, IsAlias, IntoItself, StepsFull, TooDeep, UrlTooLong, IdsFull, NoName}
 use Rattle.site_types.specs.declared.refusal.Refusal.TheVariants as refusals
-use Rattle.site_types.specs.declared.revision.Revision.{Revision}
 use Rattle.tree_model.specs.Limits.{MAX_URL}
 use Rattle.tree_model.specs.Places.{parent_in, parent_at, slug_in, stays_put, moved_to, leads_into_itself}
 use Rattle.tree_model.specs.Renames.{renamed}
 use Rattle.site_model.specs.World.{TreePart}
-use Rattle.site_model.specs.Limits.{MAX_GRANTS, MAX_CONTENTS, contents_length}
+use Rattle.site_model.specs.Limits.{MAX_GRANTS}
 use Rattle.site_model.specs.Rights.{Rights, is_superuser, rights_of, user_of}
 use Rattle.site_model.specs.Rules.{refused_if, first_of, no_page, no_pages, are_root, slug_taken, steps_full, too_deep, url_too_long, ids_full, content_full, is_given, no_user, no_group}
 use Rattle.site_model.specs.Views.{Stage, body_of, view_of, is_asked}
@@ -34,33 +33,12 @@ use Rattle.site_model.specs.Moves as moves
 use Rattle.site_model.specs.Slugs.{slug_rules}
 use Rattle.site_model.specs.Slugs as slugs
 use Rattle.site_model.specs.Users.{is_membership, is_grant, agree, grants_after, user_rules, group_rules, member_rules, grant_rules}
-use Rattle.site_model.specs.Desks.{desk_page, settled}
+use Rattle.site_model.specs.Bodies.{latest_of}
+use Rattle.site_model.specs.Publishing.{publish_rules, unpublish_rules, lock_rules, unlock_rules, purge_rules}
+use Rattle.site_model.specs.Desks.{desk_page, no_desk, open_rules, file_rules, settled}
 use Rattle.site_model.specs.Step.{is_built, rules, refusal_of, unless_refused, step_by}
 use Rattle.site_model.specs.Step as steps
-
--- whether a refusal says that a need is not met
-abbrev is_denied : Option Refusal → Bool
-is_denied (Some (Denied need)) = true
-is_denied _ = false
-
--- of rules none says so where neither the first nor a later one does
-first_says : (refusal : Option Refusal) (later : List (Option Refusal)) →
-    is_denied refusal ≡ false → is_denied (first_of later) ≡ false →
-    is_denied (first_of (refusal ∷ later)) ≡ false
-first_says None later one more = more
-first_says (Some refusal) later one more = one
-
--- nor does a test with another refusal
-test_says : (test : Bool) (refusal : Refusal) → is_denied (Some refusal) ≡ false →
-    is_denied (refused_if test refusal) ≡ false
-test_says true refusal one = one
-test_says false refusal one = refl
-
--- nor one of two
-either_says : (test : Bool) (one other : Option Refusal) → is_denied one ≡ false →
-    is_denied other ≡ false → is_denied (cond test one other) ≡ false
-either_says true one other first second = first
-either_says false one other first second = second
+use Rattle.site_model.proofs.DenialLemmas.{is_denied, first_says, test_says, either_says, all_say, ids_say, contents_say, new_says, desk_says, open_says, file_says, publish_says, unpublish_says, locking_says, unlocking_says, purge_says}
 
 -- nor a slug that is taken
 taken_says : (found : Option ℕ) → is_denied (option_map SlugTaken found) ≡ false
@@ -122,17 +100,6 @@ front_says part caller row needs is =
     (first_says (in_moderation row.moderation (rights_of part caller) (stage_in view)) []
     (stage_says row.moderation (rights_of part caller) (stage_in view)) refl)))))
 
--- of a list of rules none says so where none does
-all_say : (tried : List (Option Refusal)) →
-    AllByRecursion (λ (one : Option Refusal). is_denied one ≡ false) tried →
-    is_denied (first_of tried) ≡ false
-all_say [] all = refl
-all_say (one ∷ tried) all = first_says one tried all.0 (all_say tried all.1)
-
--- nor do ids that are full
-ids_say : (last next : ℕ) → is_denied (ids_full last next) ≡ false
-ids_say last next = test_says (nat_lt last next) IdsFull refl
-
 -- nor a URL that is too long
 url_says : (rows : List (Row Body)) → is_denied (url_too_long rows) ≡ false
 url_says rows =
@@ -149,15 +116,6 @@ steps_say rows =
     test_says
     (list_any (λ (row : Row Body). list_any (λ step. nat_lt LAST_STEP step) row.path) rows)
     StepsFull refl
-
--- nor contents that have no room
-contents_say : (revisions : List Revision) → is_denied (content_full revisions) ≡ false
-contents_say revisions =
-    test_says (nat_lt MAX_CONTENTS (contents_length revisions)) ContentFull refl
-
--- nor what changes nothing
-new_says : (test : Bool) → is_denied (refused_if test NothingNew) ≡ false
-new_says test = test_says test NothingNew refl
 
 -- nor a group that is not there
 group_says : (part : TreePart) (group : ℕ) → is_denied (no_group part group) ≡ false
@@ -285,6 +243,26 @@ own_says part desk now caller (Move page target position) =
 own_says part desk now caller (Delete page) = refl
 own_says part desk now caller (SetSlug page slug) =
     first_says (slug_rules part.tree page slug) [] (slug_says part.tree page slug) refl
+own_says part desk now caller (OpenDesk page) =
+    first_says (open_rules part page) [] (open_says part page) refl
+own_says part desk now caller (SaveDesk page content) =
+    first_says (no_desk desk) [] (desk_says desk) refl
+own_says part desk now caller (ShutDesk page) =
+    first_says (no_desk desk) [] (desk_says desk) refl
+own_says part desk now caller (File page go_live expire) =
+    first_says (file_rules part now caller page go_live expire desk) []
+    (file_says part now caller page go_live expire desk) refl
+own_says part desk now caller (Publish page) =
+    first_says (publish_rules part now page (latest_of part page)) []
+    (publish_says part now page (latest_of part page)) refl
+own_says part desk now caller (Unpublish page) =
+    first_says (unpublish_rules part page) [] (unpublish_says part page) refl
+own_says part desk now caller (Lock page) =
+    first_says (lock_rules caller) [] (locking_says caller) refl
+own_says part desk now caller (Unlock page) =
+    first_says (unlock_rules part page) [] (unlocking_says part page) refl
+own_says part desk now caller (Purge page) =
+    first_says (purge_rules part page) [] (purge_says part page) refl
 own_says part desk now caller (DefineUser superuser digest) =
     first_says (user_rules part digest) [] (user_says part digest) refl
 own_says part desk now caller DefineGroup =

@@ -1,7 +1,8 @@
 -- A step that is accepted keeps a world without aliases sound, whatever desks are open.
-use Rattle.std.proofs.Common.{◌≡◌, ℕ, Bool, true, false, cond, not, ◌&&◌, nat_eq, List, [], ◌∷◌, map, filter, Option, Some, None, Result, Ok, Err, refl, sym, ap, subst, ◌∙◌}
+use Rattle.std.proofs.Common.{◌≡◌, ℕ, Bool, true, false, cond, not, ◌||◌, ◌&&◌, nat_eq, List, [], ◌∷◌, map, filter, find, Option, Some, None, Result, Ok, Err, refl, sym, ap, subst, ◌∙◌}
 use Rattle.std.specs.Prelude.{IfSome}
-use Rattle.std.specs.List.{AllByRecursion}
+use Rattle.std.specs.List.{AllByRecursion, list_any}
+use Rattle.std.specs.Option.{option_map}
 use Rattle.site_ids.specs.Moment.{IsMoment}
 use Rattle.site_types.specs.Content.{ContentValue, FitsLimits}
 use Rattle.site_types.specs.declared.command.Command.{Command}
@@ -11,17 +12,18 @@ use Rattle.site_types.specs.declared.refusal.Refusal.{Refusal}
 use Rattle.site_types.specs.declared.reply.Reply.{Reply}
 use Rattle.site_types.specs.declared.reply.Reply.TheVariants.{Done}
 use Rattle.site_model.specs.World.{DeskPair, Desk, World, TreePart, Deed, Effect, pair_of}
-use Rattle.site_model.specs.Desks.{desk_page, own_text, no_desk, is_ended, settled, desks_after}
+use Rattle.site_model.specs.Desks.{desk_page, text_at, own_text, no_desk, desk_opened, with_pair, with_desk, is_ended, settled, desks_after}
 use Rattle.site_model.specs.Step.{saving, with_text, saved, save, step_by, with_desks, step_with, step_at, step}
 use Rattle.site_model.specs.Step as steps
 use Rattle.site_model.specs.Sound.{IsSoundPart, IsSound}
-use Rattle.site_model.specs.Laws.{HasNoAlias, FitsCommand}
+use Rattle.site_model.specs.Reached.{HasNoAlias}
+use Rattle.site_model.specs.Laws.{IsAtDesk, FitsCommand, FitsDesk}
 use Rattle.site_model.proofs.AcceptLemmas.{accepted, not_refused, same_ok}
-use Rattle.site_model.proofs.DeskSound.{map_filter, ended_of, settled_plain, settled_desks}
+use Rattle.site_model.proofs.Deeds.{KeepsSound}
+use Rattle.site_model.proofs.DeskSound.{map_filter, ended_pairs, settled_sound, pairs_opened, texts_opened}
 use Rattle.site_model.proofs.Groups.{groups_of}
-use Rattle.site_model.proofs.Groups as groups
 use Rattle.site_model.proofs.OrderLemmas.{all_filter}
-use Rattle.site_model.proofs.StepSound.{KeepsSound, built_sound}
+use Rattle.site_model.proofs.StepSound.{built_sound}
 
 -- What an accepted step of the tree part leaves, beside these desks of the part before it.
 record LeavesSound (after : TreePart) (told : Effect) (desks : List Desk) : Type 0 where
@@ -30,39 +32,41 @@ record LeavesSound (after : TreePart) (told : Effect) (desks : List Desk) : Type
   desks_match : map pair_of (desks_after told desks) ≡ after.desk_pairs
   texts : AllByRecursion (λ (desk : Desk). FitsLimits desk.text) (desks_after told desks)
 
--- the desks that stay open
+-- the desks that are open after a command
 settled_leaves : (part : TreePart) (caller : ℕ) (page : Option ℕ) (deed : Deed)
-    (desks : List Desk) → IsSoundPart part → KeepsSound part deed →
+    (desks : List Desk) → IsSoundPart part → KeepsSound part caller page deed →
     map pair_of desks ≡ part.desk_pairs →
     AllByRecursion (λ (desk : Desk). FitsLimits desk.text) desks →
     LeavesSound (settled caller page deed).0 (settled caller page deed).1 desks
 settled_leaves part caller page deed desks sound kept match texts =
-    let keep = λ (pair : DeskPair). not (is_ended (ended_of caller page deed) pair) in
-    let pairs = deed.part.desk_pairs in
-    subst (λ (made : TreePart × Effect). LeavesSound made.0 made.1 desks)
-    (sym (settled_plain caller page deed kept.opened)) (record {
-      sound = groups.with_desks deed.part (filter keep pairs) kept.sound
-          (settled_desks part caller page deed sound.desks kept);
+    let opened = desk_opened caller page deed.opened in
+    let keep = λ (pair : DeskPair). not (is_ended (ended_pairs caller page deed) pair) in
+    record {
+      sound = settled_sound part caller page deed sound kept;
       regular = kept.regular;
-      desks_match = map_filter keep desks
-          ∙ ap (λ (list : List DeskPair). filter keep list) (match ∙ sym kept.pairs);
+      desks_match = map_filter keep (with_desk opened desks)
+          ∙ ap (λ (list : List DeskPair). filter keep list)
+          (pairs_opened opened desks
+          ∙ ap (λ (list : List DeskPair). with_pair opened list) (match ∙ sym kept.pairs));
       texts = all_filter (λ (desk : Desk). FitsLimits desk.text)
-          (λ (desk : Desk). keep (pair_of desk)) desks texts;
-    })
+          (λ (desk : Desk). keep (pair_of desk)) (with_desk opened desks)
+          (texts_opened part opened desks kept.opened texts);
+    }
 
 -- an accepted step of the tree part leaves a sound one
 step_by_leaves : (before after : TreePart) (told : Effect) (desk : Option ContentValue)
     (now caller : ℕ) (command : Command) (desks : List Desk) → IsSoundPart before →
     HasNoAlias before.tree → IsMoment now → FitsCommand command →
+    FitsDesk before caller (desk_page command) desk →
     map pair_of desks ≡ before.desk_pairs →
     AllByRecursion (λ (one : Desk). FitsLimits one.text) desks →
     step_by before desk now caller command ≡ Ok (after, told) → LeavesSound after told desks
-step_by_leaves before after told desk now caller command desks sound regular moment fits match texts
-    is =
+step_by_leaves before after told desk now caller command desks sound regular moment fits at match
+    texts is =
     let one = accepted before after told desk now caller command is in
     let deed = steps.effect before desk now caller command in
-    let kept = built_sound before desk now caller command (groups_of before sound) regular moment
-    fits one.front one.built one.own in
+    let kept = built_sound before desk now caller command (groups_of before sound) sound.desks
+    regular moment fits at one.front one.built one.own in
     subst (λ (made : TreePart × Effect). LeavesSound made.0 made.1 desks) one.done
     (settled_leaves before caller (desk_page command) deed desks sound kept match texts)
 
@@ -132,6 +136,42 @@ part_keeps_sound desks (Ok done) after reply follows is =
       left.regular,
     )
 
+-- a text that is found at a desk is within its limits, and the desk is open
+text_found : (page user : ℕ) (desks : List Desk) →
+    AllByRecursion (λ (desk : Desk). FitsLimits desk.text) desks →
+    IfSome (text_at desks page user) (λ text. FitsLimits text
+    × (list_any (λ (pair : DeskPair). nat_eq pair.page page && nat_eq pair.user user)
+    (map pair_of desks) ≡ true))
+text_found page user [] texts = tt
+text_found page user (desk ∷ desks) texts =
+    choice (nat_eq desk.page page && nat_eq desk.user user) (text_found page user desks texts.1)
+  where
+    Open : Bool → ContentValue → Type 0
+    Open t text = FitsLimits text
+        × ((t || list_any (λ (pair : DeskPair). nat_eq pair.page page && nat_eq pair.user user)
+        (map pair_of desks)) ≡ true)
+
+    choice : (t : Bool) → IfSome (text_at desks page user) (Open false) →
+        IfSome (option_map (λ (one : Desk). one.text) (cond t (Some desk)
+        (find (λ (one : Desk). nat_eq one.page page && nat_eq one.user user) desks))) (Open t)
+    choice true more = (texts.0, refl)
+    choice false more = more
+
+-- In a sound world the text of the caller's own desk is as a step asks for it.
+pub own_text_fits : (world : World) (caller : ℕ) (page : Option ℕ) → IsSound world →
+    FitsDesk world.part caller page (own_text world.desks caller page)
+own_text_fits world caller None sound = tt
+own_text_fits world caller (Some page) sound =
+    choice (text_at world.desks page caller) (text_found page caller world.desks sound.texts)
+  where
+    choice : (found : Option ContentValue) →
+        IfSome found (λ text. FitsLimits text
+        × (list_any (λ (pair : DeskPair). nat_eq pair.page page && nat_eq pair.user caller)
+        (map pair_of world.desks) ≡ true)) →
+        IfSome found (λ text. IsAtDesk world.part caller page text)
+    choice None is = tt
+    choice (Some text) is = record { fits = is.0; opened = rw sound.desks_match at is.1 }
+
 -- A step that is accepted keeps a world sound, whoever calls and whatever desks are open.
 pub step_keeps_sound : (before after : World) (reply : Reply) (entry : Entry) → IsSound before →
     HasNoAlias before.part.tree → IsMoment entry.moment → FitsCommand entry.command →
@@ -147,7 +187,8 @@ step_keeps_sound before after reply entry sound regular moment fits is =
         part_keeps_sound before.desks _ after reply
         (λ made told one. step_by_leaves before.part made told
         (own_text before.desks entry.caller (desk_page entry.command)) entry.moment entry.caller
-        entry.command before.desks sound.part regular moment fits sound.desks_match sound.texts
-        one) h
+        entry.command before.desks sound.part regular moment fits
+        (own_text_fits before entry.caller (desk_page entry.command) sound) sound.desks_match
+        sound.texts one) h
     choice (Some pair) within h =
         save_keeps_sound before after reply entry.caller pair.0 pair.1 sound regular within h

@@ -1,34 +1,31 @@
 -- The laws of the world, each proved in src/laws.rt.
-use Rattle.std.specs.Prelude.{◌≡◌, ℕ, ◌≤◌, ◌==◌, ◌||◌, true, false, not, filter, List, [], ◌∷◌, ◌++◌, length, Option, Some, None, Ok, Err, IfSome, max}
-use Rattle.std.specs.List.{AllByRecursion}
-use Rattle.page_tree.specs.Tree.{Forest, HasDistinctIds, has_page}
+use Rattle.std.specs.Prelude.{◌≡◌, ℕ, ◌≤◌, ◌==◌, ◌||◌, ◌&&◌, true, false, not, filter, List, [], ◌∷◌, ◌++◌, length, Option, Some, None, Ok, Err, IfSome, max}
+use Rattle.std.specs.List.{AllByRecursion, list_any}
+use Rattle.page_tree.specs.Tree.{HasDistinctIds, has_page}
 use Rattle.page_tree.specs.Rows.{Row, rows_of, raise_count}
 use Rattle.site_ids.specs.declared.digest.TheConstants.{DIGEST_BYTES}
 use Rattle.site_ids.specs.Moment.{IsMoment}
 use Rattle.site_ids.specs.Slug.{IsSlug}
 use Rattle.site_types.specs.Content.{ContentValue, FitsLimits}
-use Rattle.site_types.specs.declared.body.Body.{Body}
 use Rattle.site_types.specs.declared.command.Command.{Command}
 use Rattle.site_types.specs.declared.command.Command.TheVariants as commands
 use Rattle.site_types.specs.declared.entry.Entry.{Entry}
 use Rattle.site_types.specs.declared.permission.Permission.{Permission}
 use Rattle.site_types.specs.declared.refusal.Refusal.TheVariants.{Denied}
 use Rattle.site_types.specs.declared.reply.Reply.{Reply}
-use Rattle.tree_model.specs.Shape.{AllPages}
-use Rattle.site_model.specs.World.{World, TreePart, DeskPair, Deed, Effect}
+use Rattle.site_model.specs.World.{World, TreePart, DeskPair, Effect}
 use Rattle.site_model.specs.Limits.{MAX_NAMED}
 use Rattle.site_model.specs.Rights.{is_superuser, has, is_granted}
 use Rattle.site_model.specs.Rules.{first_of}
 use Rattle.site_model.specs.Front.{front_rules}
-use Rattle.site_model.specs.Views.{any_live}
 use Rattle.site_model.specs.Needs.{may, edit_need}
 use Rattle.site_model.specs.Create.{plain_revision}
-use Rattle.site_model.specs.Desks.{stays}
+use Rattle.site_model.specs.Desks.{desk_page, own_text, settled, stays}
 use Rattle.site_model.specs.Step.{is_built, rules, effect, unless_refused, step_by, step}
 use Rattle.site_model.specs.Parts.{part_of, touches}
 use Rattle.site_model.specs.Start.{new_world}
 use Rattle.site_model.specs.Sound.{IsSound, NumbersRise}
-use Rattle.site_model.specs.Reached.{AreDrafts, IsReachedPart, IsReached, draft_need}
+use Rattle.site_model.specs.Reached.{HasNoAlias, HasNoModeration, IsReachedPart, IsReached, draft_need}
 
 -- A list of ids in a command: 1 to 16 of them.
 pub record FitsList (ids : List ℕ) : Type 0 where
@@ -68,9 +65,17 @@ FitsCommand (commands.Member user group on) = Unit {0}
 FitsCommand (commands.Grant group page permission on) = Unit {0}
 FitsCommand commands.Tick = Unit {0}
 
--- no page is an alias
-abbrev pub HasNoAlias : Forest Body → Type 0
-HasNoAlias tree = AllPages (λ id slug body. body.source ≡ None) tree
+-- What the text at a command's desk has to be, so that it keeps a world sound: it is within its
+-- limits, and the desk of the caller on the page is open.
+pub record IsAtDesk (part : TreePart) (caller page : ℕ) (text : ContentValue) : Type 0 where
+  pub fits : FitsLimits text
+  pub opened :
+      list_any (λ pair. (pair.page == page) && (pair.user == caller)) part.desk_pairs ≡ true
+
+-- where the command looks at the caller's desk on a page, and a text is given, it is like that
+abbrev pub FitsDesk : TreePart → ℕ → Option ℕ → Option ContentValue → Type 0
+FitsDesk part caller page desk =
+    IfSome page (λ at. IfSome desk (λ text. IsAtDesk part caller at text))
 
 -- The world of a new site is one that is reached.
 abbrev pub NewWorldIsReached : Type 0
@@ -78,14 +83,21 @@ NewWorldIsReached =
     (digest : List ℕ) → length digest ≡ DIGEST_BYTES → IsReached (new_world digest)
 
 -- A step of the tree part that is accepted leads from a part that is reached to another that is,
--- whoever calls; it opens no desk, and none ends.
+-- whoever calls, where the text that it is given is that of the caller's own desk.
 abbrev pub StepByKeepsReached : Type 0
 StepByKeepsReached =
     (before after : TreePart) (told : Effect) (desk : Option ContentValue) (now caller : ℕ)
     (command : Command) →
     IsReachedPart before → IsMoment now → FitsCommand command →
-    step_by before desk now caller command ≡ Ok (after, told) →
-    IsReachedPart after × (told.opened ≡ None) × (told.ended ≡ [])
+    FitsDesk before caller (desk_page command) desk →
+    step_by before desk now caller command ≡ Ok (after, told) → IsReachedPart after
+
+-- In a sound world the text of the caller's own desk, as a command is given it, is as the law above
+-- asks.
+abbrev pub OwnTextFits : Type 0
+OwnTextFits =
+    (world : World) (caller : ℕ) (page : Option ℕ) →
+    IsSound world → FitsDesk world.part caller page (own_text world.desks caller page)
 
 -- A step that is accepted keeps a world sound, whoever calls and whatever desks are open, where no
 -- page is an alias; and then none is.
@@ -103,19 +115,15 @@ StepKeepsReached =
     IsReached before → IsMoment entry.moment → FitsCommand entry.command →
     step before entry ≡ Ok (after, reply) → IsReached after
 
--- what a command does that opens no desk and ends none
-abbrev pub quiet_effect : Deed → TreePart × Effect
-quiet_effect deed = (deed.part, record { reply = deed.reply; opened = None; ended = [] })
-
--- Where no desk is open, a step of a command that is built is its rules and its effect alone.
-abbrev pub StepWithoutDesks : Type 0
-StepWithoutDesks =
+-- A step of a command that is built is its rules and its effect, with the desks that end.
+abbrev pub StepIsSettled : Type 0
+StepIsSettled =
     (part : TreePart) (desk : Option ContentValue) (now caller : ℕ) (command : Command) →
-    part.desk_pairs ≡ [] → is_built command ≡ true →
+    is_built command ≡ true →
     step_by part desk now caller command
     ≡ unless_refused
     (first_of (front_rules part caller command ∷ rules part desk now caller command ∷ []))
-    (quiet_effect (effect part desk now caller command))
+    (settled caller (desk_page command) (effect part desk now caller command))
 
 -- After every command that is accepted, each desk that is open is of a user who may work there.
 abbrev pub DesksStay : Type 0
@@ -163,12 +171,12 @@ HeldByWalks =
     has part user permission page
     ≡ (is_superuser part.users user || is_granted part user permission page)
 
--- Among drafts no page is live, and nobody edits a page as its moderator.
-abbrev pub NeedsOfDrafts : Type 0
-NeedsOfDrafts =
+-- Where no page has a moderation, nobody edits a page as its moderator.
+abbrev pub EditNeedUnmoderated : Type 0
+EditNeedUnmoderated =
     (part : TreePart) (user page : ℕ) →
-    AreDrafts part.tree → has_page page part.tree ≡ true →
-    (any_live part.tree page ≡ false) × (edit_need part user page ≡ draft_need part user page)
+    HasNoModeration part.tree → has_page page part.tree ≡ true →
+    edit_need part user page ≡ draft_need part user page
 
 -- the lists beside the tree, but for the revisions, and the numbers that no creation gives out
 pub record KeepsLists (before after : TreePart) : Type 0 where

@@ -25,3 +25,5 @@ pub mod Sound
 pub mod Reached
 pub mod Parts
 pub mod Laws
+pub mod Losing
+pub mod LosingLaws

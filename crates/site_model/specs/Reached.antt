@@ -1,11 +1,9 @@
 -- What holds of every world that the commands which are built reach from a new site's: it is sound,
 -- and what no command makes yet is not there.
 use Rattle.std.specs.Prelude.{◌≡◌, ℕ, false, ◌&&◌, ◌||◌, ◌==◌, Bool, [], Option, Some, None}
-use Rattle.std.specs.List.{AllByRecursion}
 use Rattle.page_tree.specs.Tree.{Forest}
 use Rattle.site_types.specs.declared.body.Body.{Body}
 use Rattle.site_types.specs.declared.permission.Permission.TheVariants.{Add, Change}
-use Rattle.site_types.specs.declared.revision.Revision.{Revision}
 use Rattle.tree_model.specs.Shape.{AllPages}
 use Rattle.site_model.specs.World.{World, TreePart}
 use Rattle.site_model.specs.Rights.{permission_number, has}
@@ -13,33 +11,24 @@ use Rattle.site_model.specs.Views.{body_of}
 use Rattle.site_model.specs.Needs.{unless_met}
 use Rattle.site_model.specs.Sound.{IsSoundPart, IsSound}
 
--- What no command makes of a page yet.
-pub record IsDraft (body : Body) : Type 0 where
-  pub no_alias : body.source ≡ None
-  pub not_live : body.live ≡ false
-  pub not_expired : body.expired ≡ false
-  pub never_published : body.first_published ≡ None
-  pub not_published : body.last_published ≡ None
-  pub no_schedule : body.scheduled ≡ None
-  pub no_lock : body.locked_by ≡ None
-  pub no_workflow : body.workflow ≡ None
-  pub no_moderation : body.moderation ≡ None
-  pub shows_latest : body.shown ≡ body.latest
+-- no page is an alias
+abbrev pub HasNoAlias : Forest Body → Type 0
+HasNoAlias tree = AllPages (λ id slug body. body.source ≡ None) tree
 
--- each page is like that
-abbrev pub AreDrafts : Forest Body → Type 0
-AreDrafts tree = AllPages (λ id slug body. IsDraft body) tree
+-- no page has a workflow of its own
+abbrev pub HasNoWorkflow : Forest Body → Type 0
+HasNoWorkflow tree = AllPages (λ id slug body. body.workflow ≡ None) tree
 
--- A revision has no moments to publish it or to end it yet.
-pub record IsPlain (revision : Revision) : Type 0 where
-  pub no_go_live : revision.go_live ≡ None
-  pub no_expiry : revision.expire ≡ None
+-- no page has a moderation
+abbrev pub HasNoModeration : Forest Body → Type 0
+HasNoModeration tree = AllPages (λ id slug body. body.moderation ≡ None) tree
 
--- What no command makes yet is not there.
+-- What no command makes yet is not there: an alias, a page's workflow or its moderation, a task, a
+-- workflow.
 pub record HasNoneYet (part : TreePart) : Type 0 where
-  pub drafts : AreDrafts part.tree
-  pub plain : AllByRecursion IsPlain part.revisions
-  pub no_desk : part.desk_pairs ≡ []
+  pub no_alias : HasNoAlias part.tree
+  pub no_page_workflow : HasNoWorkflow part.tree
+  pub no_moderation : HasNoModeration part.tree
   pub no_task : part.tasks ≡ []
   pub no_workflow : part.workflows ≡ []
 

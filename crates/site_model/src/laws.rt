@@ -1,5 +1,6 @@
 //! Laws of the world. Each is a function that does nothing: its contract is the law.
-ghost use Rattle.site_model.specs.Laws.{NewWorldIsReached, StepByKeepsReached, StepKeepsReached, StepKeepsSound, StepWithoutDesks, DesksStay, UntouchedStays, TouchedAlone, SuperusersMayAll, HeldByWalks, NeedsOfDrafts, CreationKeepsTheRest};
+ghost use Rattle.site_model.specs.Laws.{NewWorldIsReached, StepByKeepsReached, OwnTextFits, StepKeepsReached, StepKeepsSound, StepIsSettled, DesksStay, UntouchedStays, TouchedAlone, SuperusersMayAll, HeldByWalks, EditNeedUnmoderated, CreationKeepsTheRest};
+ghost use Rattle.site_model.specs.LosingLaws.{EndedAre, EndsOwn, EndsNone, DeletionEndsAll, LockEndsOthers, PublishEndsNone, StaysByMembers, MemberEnds, StaysByGrants, GrantEnds, MovedAbove, MovedStay, MoveEnds};
 
 /// The world of a new site is one that is reached.
 pub fn new_world_is_reached()
@@ -9,6 +10,11 @@ pub fn new_world_is_reached()
 /// A step of the tree part leads to what is reached, whoever calls.
 pub fn step_by_keeps_reached()
     ensures { StepByKeepsReached }
+{}
+
+/// The text of the caller's own desk is as a step asks for it.
+pub fn own_text_fits()
+    ensures { OwnTextFits }
 {}
 
 /// A step leads to a world that is reached, whoever calls.
@@ -21,9 +27,9 @@ pub fn step_keeps_sound()
     ensures { StepKeepsSound }
 {}
 
-/// Where no desk is open, a step is its rules and its effect alone.
-pub fn step_without_desks()
-    ensures { StepWithoutDesks }
+/// A step is its rules and its effect, with the desks that end.
+pub fn step_is_settled()
+    ensures { StepIsSettled }
 {}
 
 /// After every command each open desk is of a user who may work there.
@@ -51,12 +57,77 @@ pub fn held_by_walks()
     ensures { HeldByWalks }
 {}
 
-/// What needs come to among drafts.
-pub fn needs_of_drafts()
-    ensures { NeedsOfDrafts }
+/// Where no page has a moderation, nobody edits a page as its moderator.
+pub fn edit_need_unmoderated()
+    ensures { EditNeedUnmoderated }
 {}
 
 /// What a creation does not name stays as it was.
 pub fn creation_keeps_the_rest()
     ensures { CreationKeepsTheRest }
+{}
+
+/// Every command ends the caller's own desk, where it shuts it, and suspects that do not stay.
+pub fn ended_are()
+    ensures { EndedAre }
+{}
+
+/// A command without suspects ends no desk but the one that it shuts.
+pub fn ends_own()
+    ensures { EndsOwn }
+{}
+
+/// A command without suspects that shuts no desk ends none.
+pub fn ends_none()
+    ensures { EndsNone }
+{}
+
+/// A deletion ends each desk on the page and below it.
+pub fn deletion_ends_all()
+    ensures { DeletionEndsAll }
+{}
+
+/// A lock ends the desk of another on its page.
+pub fn lock_ends_others()
+    ensures { LockEndsOthers }
+{}
+
+/// To publish a page ends no desk where no page has a moderation.
+pub fn publish_ends_none()
+    ensures { PublishEndsNone }
+{}
+
+/// After a membership changed, a desk stays by the memberships alone.
+pub fn stays_by_members()
+    ensures { StaysByMembers }
+{}
+
+/// A membership that ends ends desks of its user alone.
+pub fn member_ends()
+    ensures { MemberEnds }
+{}
+
+/// After a grant changed, a desk stays by the grants alone.
+pub fn stays_by_grants()
+    ensures { StaysByGrants }
+{}
+
+/// A grant that is withdrawn ends desks of its group's members, on its page and below it alone.
+pub fn grant_ends()
+    ensures { GrantEnds }
+{}
+
+/// The walk to a moved page leads over its new parent, and then on as before.
+pub fn moved_above()
+    ensures { MovedAbove }
+{}
+
+/// After a move, a desk on a moved page stays by what its user may do below the new parent.
+pub fn moved_stay()
+    ensures { MovedStay }
+{}
+
+/// A move ends those desks on moved pages whose users may not edit there below the new parent.
+pub fn move_ends()
+    ensures { MoveEnds }
 {}

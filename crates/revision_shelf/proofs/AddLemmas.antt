@@ -1,5 +1,5 @@
 -- A revision added behind all others.
-use Rattle.std.proofs.Common.{◌≡◌, ℕ, ◌+◌, ◌<◌, ◌≤◌, Bool, true, false, cond, not, nat_eq, nat_lt, List, [], ◌∷◌, ◌++◌, Option, Some, None, map, find, filter, length, refl, ap, sym, ◌∙◌, subst, arith}
+use Rattle.std.proofs.Common.{◌≡◌, ℕ, ◌+◌, ◌<◌, ◌≤◌, Bool, true, false, cond, nat_eq, nat_lt, List, [], ◌∷◌, ◌++◌, Option, Some, None, refl, ap, sym, ◌∙◌, arith}
 use Rattle.std.proofs.lemmas.Bool.Decides.{nat_tests}
 use Rattle.std.specs.List.{AllByRecursion}
 use Rattle.std.specs.Option.{option_map, IfSome}
@@ -7,7 +7,7 @@ use Rattle.std.specs.Map.{lookup}
 use Rattle.site_types.specs.Ids.{IsRevisionId}
 use Rattle.site_types.specs.declared.revision.Revision.{Revision}
 use Rattle.revision_shelf.specs.declared.shelf.Kept.{Kept}
-use Rattle.revision_shelf.specs.Shelf.{weight_of, total_weight, revision_with, latest_of, Rises}
+use Rattle.revision_shelf.specs.Shelf.{weight_of, revision_with, latest_of}
 use Rattle.revision_shelf.specs.Kept.{below, IsKept}
 use Rattle.revision_shelf.proofs.ListLemmas.{All-weaker, filter-all, filter-fails_last, map-last, All-found, find-none, find-last, find-fails_last}
 use Rattle.revision_shelf.proofs.RiseLemmas.{Rises-last, total-last}

@@ -1,5 +1,5 @@
 -- Chains of which the newest goes, and the ids that are left when chains are gone.
-use Rattle.std.proofs.Common.{◌≡◌, ℕ, ◌-◌, ◌<◌, Bool, true, false, cond, not, is_some, nat_eq, List, [], ◌∷◌, Option, Some, None, map, find, filter, length, refl, ap, sym, ◌∙◌, subst, arith}
+use Rattle.std.proofs.Common.{◌≡◌, ℕ, ◌-◌, ◌<◌, Bool, true, false, cond, not, is_some, nat_eq, List, [], ◌∷◌, Option, Some, None, map, filter, length, refl, ap, sym, ◌∙◌, subst, arith}
 use Rattle.std.proofs.lemmas.Bool.Decides.{nat_tests}
 use Rattle.std.specs.List.{AllByRecursion, list_any}
 use Rattle.std.specs.Option.{option_map}
@@ -8,7 +8,7 @@ use Rattle.site_types.specs.declared.revision.Revision.{Revision}
 use Rattle.revision_shelf.specs.declared.shelf.Kept.{Kept}
 use Rattle.revision_shelf.specs.Shelf.{weight_of, revision_with, latest_of, without_page, without_pages, Rises}
 use Rattle.revision_shelf.specs.Kept.{without, without_latest, IsKept, IsChained}
-use Rattle.revision_shelf.proofs.ListLemmas.{All-weaker, map-filter, find-none}
+use Rattle.revision_shelf.proofs.ListLemmas.{All-weaker, filter-agree, map-filter, find-none}
 use Rattle.revision_shelf.proofs.RiseLemmas.{all_above, length-without}
 use Rattle.revision_shelf.proofs.LatestLemmas.{latest-there}
 use Rattle.revision_shelf.proofs.RemoveLemmas.{none_goes, remove_kept, others_kept, goes_with}
@@ -124,17 +124,6 @@ found_kept low test (r ∷ rs) h = (
             let less = above.0 in
             let differ : nat_eq r.id x.id ≡ false = grind (arith, nat_tests) in rw differ (all.0)
         by false = all.0
-
--- tests that agree on each element keep the same ones
-filter-agree : {X : Type 0} (t u : X → Bool) (xs : List X) → AllByRecursion (λ x. t x ≡ u x) xs →
-    filter t xs ≡ filter u xs
-filter-agree t u [] all = refl
-filter-agree t u (x ∷ xs) all = rw (all.0) (by (u x) (filter-agree t u xs all.1))
-  where
-    by : (b : Bool) → filter t xs ≡ filter u xs →
-        cond b (x ∷ filter t xs) (filter t xs) ≡ cond b (x ∷ filter u xs) (filter u xs)
-    by true more = ap (λ ys. x ∷ ys) more
-    by false more = more
 
 -- The ids of which a revision is there, once some pages' revisions are gone, are those of the others.
 pub ids_left : (stored : List (ℕ × Kept)) (newest : List (ℕ × ℕ)) (weight : ℕ) (pages order later :

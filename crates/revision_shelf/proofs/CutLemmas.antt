@@ -1,12 +1,10 @@
 -- An id taken out of ids that rise, at the place where a search finds it.
-use Rattle.std.proofs.Common.{◌≡◌, ℕ, zero, suc, ◌+◌, ◌<◌, ◌≤◌, Bool, true, false, cond, not, nat_eq, nat_lt, List, [], ◌∷◌, Result, Ok, Err, MatchResult, filter, length, get_or, remove, refl, ap, sym, ◌∙◌, arith}
+use Rattle.std.proofs.Common.{◌≡◌, ℕ, zero, suc, ◌<◌, ◌≤◌, Bool, true, false, not, nat_eq, nat_lt, List, [], ◌∷◌, Ok, Err, filter, length, get_or, remove, refl, ap, sym, arith}
 use Rattle.std.proofs.lemmas.Bool.Decides.{nat_tests}
-use Rattle.std.specs.List.{AllByRecursion}
 use Rattle.std.specs.List.Sorted.{IsBinarySearchResult}
 use Rattle.std.specs.Ordering.{nat_cmp}
 use Rattle.std.proofs.lemmas.List.Sorted.{searched}
 use Rattle.revision_shelf.specs.Kept.{IdsRise}
-use Rattle.revision_shelf.proofs.ListLemmas.{filter-all}
 
 -- ids that rise are above what they rise from
 pub id_above : (low : ℕ) (ids : List ℕ) (i : ℕ) → IdsRise low ids → i < length ids → low < get_or ids i 0

@@ -1,12 +1,12 @@
 -- The latest revision of a page: the greatest of its ids, and how it changes.
-use Rattle.std.proofs.Common.{◌≡◌, ℕ, suc, ◌+◌, ◌<◌, ◌≤◌, Bool, true, false, cond, not, nat_eq, nat_lt, ◌&&◌, List, [], ◌∷◌, ◌++◌, Option, Some, None, map, find, filter, length, refl, ap, sym, ◌∙◌, arith}
+use Rattle.std.proofs.Common.{◌≡◌, ℕ, ◌<◌, ◌≤◌, Bool, true, false, cond, not, nat_eq, List, [], ◌∷◌, ◌++◌, Option, Some, None, filter, refl, ap, sym, ◌∙◌, arith}
 use Rattle.std.proofs.lemmas.Bool.Decides.{nat_tests}
 use Rattle.std.specs.List.{AllByRecursion}
 use Rattle.std.specs.Option.{option_or}
 use Rattle.site_types.specs.declared.revision.Revision.{Revision}
-use Rattle.revision_shelf.specs.Shelf.{revision_with, latest_of, without_page, Rises}
-use Rattle.revision_shelf.specs.Kept.{without, below}
-use Rattle.revision_shelf.proofs.ListLemmas.{All-weaker, filter-all}
+use Rattle.revision_shelf.specs.Shelf.{revision_with, latest_of, Rises}
+use Rattle.revision_shelf.specs.Kept.{without}
+use Rattle.revision_shelf.proofs.ListLemmas.{All-filter, filter-all}
 use Rattle.revision_shelf.proofs.RiseLemmas.{all_above}
 
 -- an option or none is the option
@@ -137,3 +137,65 @@ pub latest-filter : (page : ℕ) (t : Revision → Bool) (revisions : List Revis
 latest-filter page t revisions all =
     latest-agree page t (λ r. true) revisions all
     ∙ ap (latest_of page) (filter-all (λ (r : Revision). true) revisions (all_true revisions))
+
+-- what holds of each id holds of the latest
+pub latest-has : (P : ℕ → Type 0) (page last : ℕ) (revisions : List Revision) →
+    AllByRecursion (λ (r : Revision). P r.id) revisions → latest_of page revisions ≡ Some last → P last
+latest-has P page last [] all is = cc
+latest-has P page last (r ∷ rs) all is =
+    by (latest_of page rs) (nat_eq r.page page) refl (latest-has P page last rs all.1) is
+  where
+    by : (o : Option ℕ) (t : Bool) → latest_of page rs ≡ o → (latest_of page rs ≡ Some last → P last) →
+        option_or o (cond t (Some r.id) None) ≡ Some last → P last
+    by (Some x) t e more is = let same : x ≡ last = cc in more (rw (← same) e)
+    by None true e more is = let same : r.id ≡ last = cc in rw (← same) (all.0)
+    by None false e more is = absurd cc
+
+-- the latest stays where another goes
+pub latest-stays : (low page gone : ℕ) (revisions : List Revision) → Rises low revisions →
+    (latest_of page revisions ≡ Some gone → ⊥) →
+    latest_of page (without gone revisions) ≡ latest_of page revisions
+latest-stays low page gone [] h other = refl
+latest-stays low page gone (r ∷ rs) h other =
+    by (nat_eq r.id gone) (latest_of page rs) refl refl other (latest-stays r.id page gone rs h.3)
+  where
+    by : (t : Bool) (o : Option ℕ) → nat_eq r.id gone ≡ t → latest_of page rs ≡ o →
+        (option_or o (cond (nat_eq r.page page) (Some r.id) None) ≡ Some gone → ⊥) →
+        ((latest_of page rs ≡ Some gone → ⊥) → latest_of page (without gone rs) ≡ latest_of page rs) →
+        latest_of page (cond (not t) (r ∷ without gone rs) (without gone rs))
+        ≡ option_or (latest_of page rs) (cond (nat_eq r.page page) (Some r.id) None)
+    by true (Some x) e f other more =
+        let rest = more (λ (is : latest_of page rs ≡ Some gone). other (sym f ∙ is)) in rest ∙ rw f refl
+    by false (Some x) e f other more =
+        let rest = more (λ (is : latest_of page rs ≡ Some gone). other (sym f ∙ is)) in rw rest refl
+    by false None e f other more =
+        let rest = more (λ (is : latest_of page rs ≡ Some gone). absurd cc) in rw rest refl
+    by true None e f other more =
+        let same : r.id ≡ gone = grind (arith, nat_tests) in
+        let rest = more (λ (is : latest_of page rs ≡ Some gone). absurd cc) in
+        rest ∙ inner (nat_eq r.page page) refl same
+      where
+        inner : (v : Bool) → nat_eq r.page page ≡ v → r.id ≡ gone →
+            latest_of page rs ≡ option_or (latest_of page rs) (cond v (Some r.id) None)
+        inner true g same = absurd (other (rw g (ap (λ n. Some n) same)))
+        inner false g same = rw f refl
+
+-- a latest of those that pass a test is there
+pub latest-found : (page last : ℕ) (test : Revision → Bool) (revisions : List Revision) →
+    latest_of page (filter test revisions) ≡ Some last → revision_with last revisions ≡ None → ⊥
+latest-found page last test revisions is none =
+    let differs : nat_eq last last ≡ false = latest-has (λ (n : ℕ). nat_eq n last ≡ false) page last
+    (filter test revisions) (All-filter (λ (r : Revision). nat_eq r.id last ≡ false) test revisions
+    (none_with revisions none)) is in absurd (grind (arith, nat_tests))
+  where
+    none_with : (revisions : List Revision) → revision_with last revisions ≡ None →
+        AllByRecursion (λ (r : Revision). nat_eq r.id last ≡ false) revisions
+    none_with [] none = tt
+    none_with (r ∷ rs) none = by (nat_eq r.id last) refl none (none_with rs)
+      where
+        by : (t : Bool) → nat_eq r.id last ≡ t → cond t (Some r) (revision_with last rs) ≡ None →
+            (revision_with last rs ≡ None →
+            AllByRecursion (λ (r : Revision). nat_eq r.id last ≡ false) rs) →
+            AllByRecursion (λ (r : Revision). nat_eq r.id last ≡ false) (r ∷ rs)
+        by true e none more = cc
+        by false e none more = (e, more none)

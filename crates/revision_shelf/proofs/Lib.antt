@@ -7,3 +7,5 @@ pub mod AddLemmas
 pub mod RemoveLemmas
 pub mod PagesLemmas
 pub mod ChainLemmas
+pub mod MendLemmas
+pub mod PurgeLemmas

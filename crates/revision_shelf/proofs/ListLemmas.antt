@@ -1,5 +1,5 @@
 -- Lists of which a test keeps some elements.
-use Rattle.std.proofs.Common.{◌≡◌, ℕ, suc, ◌≤◌, ◌<◌, Bool, true, false, cond, ◌&&◌, List, [], ◌∷◌, ◌++◌, Option, Some, None, map, find, filter, length, refl, ap, sym, ◌∙◌, arith}
+use Rattle.std.proofs.Common.{◌≡◌, suc, ◌≤◌, ◌<◌, Bool, true, false, cond, ◌&&◌, List, [], ◌∷◌, ◌++◌, Some, None, map, find, filter, length, refl, ap, arith}
 use Rattle.std.specs.List.{AllByRecursion}
 
 -- what holds of each element makes more hold of each
@@ -95,3 +95,80 @@ find-fails_last test (y ∷ xs) x h = by (test y) (find-fails_last test xs x h)
         cond t (Some y) (find test (xs ++ x ∷ [])) ≡ cond t (Some y) (find test xs)
     by true more = refl
     by false more = more
+
+-- what holds of each holds of those that pass a test
+pub All-filter : {X : Type 0} (P : X → Type 0) (test : X → Bool) (xs : List X) → AllByRecursion P xs →
+    AllByRecursion P (filter test xs)
+All-filter P test [] all = tt
+All-filter P test (x ∷ xs) all = by (test x) (All-filter P test xs all.1)
+  where
+    by : (t : Bool) → AllByRecursion P (filter test xs) →
+        AllByRecursion P (cond t (x ∷ filter test xs) (filter test xs))
+    by true more = (all.0, more)
+    by false more = more
+
+-- what holds of those that pass a test holds of each that passes it
+pub All-passing : {X : Type 0} (P : X → Type 0) (test : X → Bool) (xs : List X) →
+    AllByRecursion P (filter test xs) → AllByRecursion (λ x. test x ≡ true → P x) xs
+All-passing P test [] all = tt
+All-passing P test (x ∷ xs) all = by (test x) refl all (All-passing P test xs)
+  where
+    by : (t : Bool) → test x ≡ t → AllByRecursion P (cond t (x ∷ filter test xs) (filter test xs)) →
+        (AllByRecursion P (filter test xs) → AllByRecursion (λ x. test x ≡ true → P x) xs) →
+        AllByRecursion (λ x. test x ≡ true → P x) (x ∷ xs)
+    by true e all more = (λ h. all.0, more all.1)
+    by false e all more = (λ h. absurd cc, more all)
+
+-- two facts of each hold together
+pub All-both : {X : Type 0} (P Q : X → Type 0) (xs : List X) → AllByRecursion P xs →
+    AllByRecursion Q xs → AllByRecursion (λ x. P x × Q x) xs
+All-both P Q [] all more = tt
+All-both P Q (x ∷ xs) all more = ((all.0, more.0), All-both P Q xs all.1 more.1)
+
+-- two tests in either order
+pub filter-swap : {X : Type 0} (t u : X → Bool) (xs : List X) →
+    filter t (filter u xs) ≡ filter u (filter t xs)
+filter-swap t u [] = refl
+filter-swap t u (x ∷ xs) = by (t x) (u x) refl refl (filter-swap t u xs)
+  where
+    by : (b c : Bool) → t x ≡ b → u x ≡ c → filter t (filter u xs) ≡ filter u (filter t xs) →
+        filter t (cond c (x ∷ filter u xs) (filter u xs)) ≡ filter u (cond b (x ∷ filter t xs) (filter
+        t xs))
+    by true true e f more = rw (e, f) (ap (λ ys. x ∷ ys) more)
+    by true false e f more = rw f more
+    by false true e f more = rw e more
+    by false false e f more = more
+
+-- tests that agree on each element keep the same ones
+pub filter-agree : {X : Type 0} (t u : X → Bool) (xs : List X) → AllByRecursion (λ x. t x ≡ u x) xs →
+    filter t xs ≡ filter u xs
+filter-agree t u [] all = refl
+filter-agree t u (x ∷ xs) all = rw (all.0) (by (u x) (filter-agree t u xs all.1))
+  where
+    by : (b : Bool) → filter t xs ≡ filter u xs →
+        cond b (x ∷ filter t xs) (filter t xs) ≡ cond b (x ∷ filter u xs) (filter u xs)
+    by true more = ap (λ ys. x ∷ ys) more
+    by false more = more
+
+-- a test keeps at most all
+pub length-filter : {X : Type 0} (test : X → Bool) (xs : List X) → length (filter test xs) ≤ length xs
+length-filter test [] = omega arith
+length-filter test (x ∷ xs) = by (test x) (length-filter test xs)
+  where
+    by : (t : Bool) → length (filter test xs) ≤ length xs →
+        length (cond t (x ∷ filter test xs) (filter test xs)) ≤ suc (length xs)
+    by true more = omega arith
+    by false more = omega arith
+
+-- a test that not all pass keeps fewer
+pub length-fewer : {X : Type 0} (test : X → Bool) (xs : List X) →
+    (AllByRecursion (λ x. test x ≡ true) xs → ⊥) → length (filter test xs) < length xs
+length-fewer test [] fails = absurd (fails tt)
+length-fewer test (x ∷ xs) fails = by (test x) refl (length-fewer test xs) (length-filter test xs)
+  where
+    by : (t : Bool) → test x ≡ t →
+        ((AllByRecursion (λ x. test x ≡ true) xs → ⊥) → length (filter test xs) < length xs) →
+        length (filter test xs) ≤ length xs →
+        length (cond t (x ∷ filter test xs) (filter test xs)) < suc (length xs)
+    by true e more most = let fewer = more (λ all. fails (e, all)) in omega arith
+    by false e more most = omega arith

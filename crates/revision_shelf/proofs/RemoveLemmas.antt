@@ -1,5 +1,5 @@
 -- The latest revision of a page taken out.
-use Rattle.std.proofs.Common.{◌≡◌, ℕ, ◌+◌, ◌-◌, ◌<◌, ◌≤◌, Bool, true, false, cond, not, nat_eq, nat_lt, ◌&&◌, List, [], ◌∷◌, Option, Some, None, IsSome, map, find, filter, length, refl, ap, sym, ◌∙◌, subst, arith}
+use Rattle.std.proofs.Common.{◌≡◌, ℕ, ◌+◌, ◌-◌, ◌<◌, ◌≤◌, Bool, true, false, cond, not, nat_eq, nat_lt, ◌&&◌, List, [], ◌∷◌, Option, Some, None, filter, length, refl, ap, sym, ◌∙◌, arith}
 use Rattle.std.proofs.lemmas.Bool.Decides.{nat_tests}
 use Rattle.std.specs.List.{AllByRecursion}
 use Rattle.std.specs.Option.{option_map, option_map_or, IfSome}
@@ -26,7 +26,7 @@ either true o = refl
 either false o = refl
 
 -- the revision that a look-up by id does not find
-find-without : (gone id : ℕ) (revisions : List Revision) →
+pub find-without : (gone id : ℕ) (revisions : List Revision) →
     revision_with id (without gone revisions) ≡ cond (nat_eq gone id) None (revision_with id revisions)
 find-without gone id [] = either (nat_eq gone id) None
 find-without gone id (r ∷ rs) =

@@ -1,5 +1,5 @@
 -- Revisions whose ids rise: others behind them, some of them, and what their contents weigh.
-use Rattle.std.proofs.Common.{◌≡◌, ℕ, suc, ◌+◌, ◌*◌, ◌<◌, ◌≤◌, Bool, true, false, cond, not, nat_eq, nat_lt, List, [], ◌∷◌, ◌++◌, Option, Some, None, map, find, filter, length, refl, ap, sym, ◌∙◌, arith}
+use Rattle.std.proofs.Common.{◌≡◌, ℕ, suc, ◌+◌, ◌*◌, ◌<◌, ◌≤◌, Bool, true, false, cond, not, nat_eq, List, [], ◌∷◌, ◌++◌, Some, map, filter, length, refl, arith}
 use Rattle.std.proofs.lemmas.Bool.Decides.{nat_tests}
 use Rattle.std.specs.List.{AllByRecursion}
 use Rattle.site_types.specs.Ids.{IsRevisionId}
@@ -129,3 +129,40 @@ found_by_own_id low (r ∷ rs) h =
     behind (x ∷ xs) above all =
         let test : nat_eq r.id x.id ≡ false = grind (arith, nat_tests) in
         (rw test (all.0), behind xs above.1 all.1)
+
+-- those that pass a test rise
+pub Rises-filter : (low : ℕ) (test : Revision → Bool) (revisions : List Revision) → Rises low revisions →
+    Rises low (filter test revisions)
+Rises-filter low test [] h = tt
+Rises-filter low test (r ∷ rs) h = by (test r) (Rises-filter r.id test rs h.3)
+  where
+    by : (t : Bool) → Rises r.id (filter test rs) →
+        Rises low (cond t (r ∷ filter test rs) (filter test rs))
+    by true more = (h.0, h.1, h.2, more)
+    by false more = Rises-lower r.id low (filter test rs) (omega arith) more
+
+-- there are no more than ids
+pub length-bound : (low : ℕ) (revisions : List Revision) → Rises low revisions → low ≤ 4_000_000_000 →
+    length revisions + low ≤ 4_000_000_000
+length-bound low [] h le = omega arith
+length-bound low (r ∷ rs) h le =
+    let last : r.id ≤ 4_000_000_000 = h.1.1 in
+    let above : low < r.id = h.0 in
+    let more = length-bound r.id rs h.3 last in
+    omega arith
+
+-- one less is left
+pub length-one_less : (low gone : ℕ) (revisions : List Revision) (one : Revision) → Rises low revisions →
+    revision_with gone revisions ≡ Some one → length (without gone revisions) + 1 ≡ length revisions
+length-one_less low gone [] one h is = cc
+length-one_less low gone (r ∷ rs) one h is =
+    by (nat_eq r.id gone) refl is (length-one_less r.id gone rs one h.3)
+  where
+    by : (t : Bool) → nat_eq r.id gone ≡ t → cond t (Some r) (revision_with gone rs) ≡ Some one →
+        (revision_with gone rs ≡ Some one → length (without gone rs) + 1 ≡ length rs) →
+        length (cond (not t) (r ∷ without gone rs) (without gone rs)) + 1 ≡ suc (length rs)
+    by true e is more =
+        let id : r.id ≡ gone = grind (arith, nat_tests) in
+        let rest = without-same r.id rs (all_above r.id rs h.3) in
+        rw (← id, rest) (omega arith)
+    by false e is more = let rest = more is in omega arith

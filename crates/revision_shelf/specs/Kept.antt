@@ -1,6 +1,6 @@
 -- How the shelf keeps its revisions: by id, with the ids in order, and the newest of each page, from
 -- which each leads to the one before it.
-use Rattle.std.specs.Prelude.{◌≡◌, ℕ, ◌<◌, Bool, not, nat_eq, nat_lt, Option, Some, None, List, [], ◌∷◌, map, filter}
+use Rattle.std.specs.Prelude.{◌≡◌, ℕ, ◌<◌, Bool, true, not, nat_eq, nat_lt, Option, Some, None, List, [], ◌∷◌, map, filter}
 use Rattle.std.specs.Option.{option_map, option_map_or, IfSome}
 use Rattle.std.specs.Map.{lookup}
 use Rattle.site_types.specs.declared.revision.Revision.{Revision}
@@ -25,6 +25,25 @@ below id revisions = filter (λ revision. nat_lt revision.id id) revisions
 -- the revisions with other ids
 abbrev pub without : ℕ → List Revision → List Revision
 without id revisions = filter (λ revision. not (nat_eq revision.id id)) revisions
+
+-- whether an id is below another, if there is one
+abbrev pub is_before : Option ℕ → ℕ → Bool
+is_before None id = true
+is_before (Some after) id = nat_lt id after
+
+-- the revisions with ids below another, if there is one
+abbrev pub before_in : Option ℕ → List Revision → List Revision
+before_in after revisions = filter (λ revision. is_before after revision.id) revisions
+
+-- the revision with this id, if there is one, is there and the page's
+abbrev pub IsOwn : ℕ → Option ℕ → List Revision → Type 0
+IsOwn page None revisions = Unit {0}
+IsOwn page (Some id) revisions =
+    option_map (λ revision. revision.page) (revision_with id revisions) ≡ Some page
+
+-- a revision as it is kept, with another one before it
+abbrev pub led_to : Option ℕ → Kept → Kept
+led_to previous kept = record kept { previous = previous }
 
 -- the revisions without the last one of a page
 abbrev pub without_latest : ℕ → List Revision → List Revision

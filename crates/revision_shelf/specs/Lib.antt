@@ -1,2 +1,3 @@
 pub mod Shelf
 pub mod Kept
+pub mod Purge

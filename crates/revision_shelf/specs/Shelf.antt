@@ -1,5 +1,5 @@
 -- What the shelf is seen as: the revisions of all pages, rising by id.
-use Rattle.std.specs.Prelude.{ℕ, ◌+◌, ◌<◌, ◌≤◌, Bool, not, nat_eq, if◌then◌else◌, Option, Some, None, List, [], ◌∷◌, length, find, filter}
+use Rattle.std.specs.Prelude.{ℕ, ◌+◌, ◌<◌, ◌≤◌, Bool, not, ◌||◌, nat_eq, if◌then◌else◌, Option, Some, None, List, [], ◌∷◌, length, find, filter}
 use Rattle.std.specs.List.{list_any}
 use Rattle.std.specs.Option.{option_or}
 use Rattle.site_types.specs.Content.{content_form}
@@ -39,6 +39,15 @@ without_page page revisions = filter (λ revision. not (nat_eq revision.page pag
 abbrev pub without_pages : List ℕ → List Revision → List Revision
 without_pages pages revisions =
     filter (λ revision. not (list_any (λ page. nat_eq page revision.page) pages)) revisions
+
+-- whether a revision stays where a page's are purged: it is another page's, or its id is one to keep
+abbrev pub is_kept : ℕ → List ℕ → Revision → Bool
+is_kept page keep revision =
+    not (nat_eq revision.page page) || list_any (λ id. nat_eq id revision.id) keep
+
+-- the revisions that stay where a page's are purged
+abbrev pub purged : ℕ → List ℕ → List Revision → List Revision
+purged page keep revisions = filter (is_kept page keep) revisions
 
 -- the ids rise from above this number to the last one there is, and each content is within its limit
 abbrev pub Rises : ℕ → List Revision → Type 0

@@ -5,8 +5,9 @@ ghost use Rattle.std.specs.Map.{lookup};
 ghost use Rattle.indexmap.specs.IndexMap.{UpdatesBy, spare, index_map_len};
 ghost use Rattle.site_types.specs.Ids.{IsPageId};
 ghost use Rattle.site_types.specs.declared.revision.Revision.{Revision as PageRevision};
-ghost use Rattle.revision_shelf.specs.Shelf.{without_page, without_pages};
-ghost use Rattle.revision_shelf.specs.Kept.{without_latest, IsChained};
+ghost use Rattle.std.specs.Option.{option_map};
+ghost use Rattle.revision_shelf.specs.Shelf.{latest_of, without_page, without_pages};
+ghost use Rattle.revision_shelf.specs.Kept.{without, without_latest, before_in, led_to, IsOwn, IsChained};
 
 use crate::shelf::Kept;
 use indexmap::IndexMap;
@@ -79,6 +80,55 @@ pub(crate) fn take_newest(
     *weight -= kept.revision.content.form_length();
     set_newest(newest, page, kept.previous);
     Some(id)
+}
+
+/// Takes a revision of a page out: the one before `after`, which then leads to the one before it, or
+/// the page's newest.
+pub(crate) fn unlink(
+    stored: &mut IndexMap<RevisionId, Kept>,
+    newest: &mut IndexMap<PageId, RevisionId>,
+    weight: &mut u64,
+    page: PageId,
+    after: Option<RevisionId>,
+    id: RevisionId,
+)
+    requires chained { (revisions : List PageRevision)
+        × IsChained stored.old.entries newest.old.entries weight.old revisions
+        × IsOwn page after revisions
+        × (latest_of page (before_in after revisions) ≡ Some id) }
+    ensures chained { (revisions : List PageRevision) →
+        IsChained stored.old.entries newest.old.entries weight.old revisions →
+        IsOwn page after revisions →
+        latest_of page (before_in after revisions) ≡ Some id →
+        IsChained stored.new.entries newest.new.entries weight.new (without id revisions) }
+    ensures spare_stored { spare stored.old ≤ spare stored.new }
+    ensures spare_newest { spare newest.old ≤ spare newest.new }
+{
+    let Some(kept) = stored.swap_remove(&id) else {
+        unreachable!();
+    };
+    let weighs = kept.revision.content.form_length();
+    *weight -= weighs;
+    match after {
+        Some(after) => set_previous(stored, after, kept.previous),
+        None => set_newest(newest, page, kept.previous),
+    }
+}
+
+/// Makes another revision the one before this, if this is there.
+fn set_previous(
+    stored: &mut IndexMap<RevisionId, Kept>,
+    id: RevisionId,
+    previous: Option<RevisionId>,
+)
+    ensures others { (other : ℕ) → lookup (nat_eq other) stored.new.entries
+        ≡ (if nat_eq id other then option_map (led_to previous) (lookup (nat_eq id) stored.old.entries)
+        else lookup (nat_eq other) stored.old.entries) }
+    ensures spare { spare stored.new ≡ spare stored.old }
+{
+    if let Some(kept) = stored.get_mut(&id) {
+        kept.previous = previous;
+    }
 }
 
 /// Makes another revision the newest of a page that has one, or takes the page out.

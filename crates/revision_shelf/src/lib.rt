@@ -4,6 +4,7 @@
 mod add;
 mod chain;
 mod look_up;
+mod purge;
 mod remove;
 mod shelf;
 

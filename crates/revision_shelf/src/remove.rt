@@ -85,7 +85,7 @@ impl Shelf {
 }
 
 /// Takes an id out of ids that rise.
-fn cut(order: &mut Vec<RevisionId>, id: RevisionId)
+pub(crate) fn cut(order: &mut Vec<RevisionId>, id: RevisionId)
     requires { IdsRise 0 order.old.items }
     ensures items { order.new.items ≡ filter (λ other. not (nat_eq other id)) order.old.items }
     ensures len { vec_len order.new ≤ vec_len order.old }

@@ -1,2 +1,5 @@
 pub mod Parts
 pub mod Shown
+pub mod Table
+pub mod Kept
+pub mod Laws

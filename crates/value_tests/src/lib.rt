@@ -9,6 +9,8 @@ mod lists;
 #[cfg(test)]
 mod paths;
 #[cfg(test)]
+mod tables;
+#[cfg(test)]
 mod times;
 #[cfg(test)]
 mod trees;

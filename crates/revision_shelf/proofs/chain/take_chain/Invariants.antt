@@ -1,5 +1,5 @@
 -- The other pages' revisions are those that were there.
-use Rattle.std.proofs.Common.{◌≡◌, ℕ, ◌≤◌, List}
+use Rattle.std.proofs.Common.{◌≡◌, ◌≤◌, List}
 use Rattle.indexmap.specs.IndexMap.{spare, index_map_len}
 use Rattle.site_types.specs.declared.revision.Revision.{Revision}
 use Rattle.revision_shelf.specs.Shelf.{without_page}

@@ -1,6 +1,5 @@
 -- The place that is found is that of the id, and where none is, the id is not among them.
-use Rattle.std.proofs.Common.{◌≡◌, ℕ, List, Ok, Err, filter, remove, subst, ◌∙◌, sym, ap}
-use Rattle.std.proofs.lemmas.List.Sorted.{searched}
+use Rattle.std.proofs.Common.{◌∙◌, sym}
 use Rattle.revision_shelf.proofs.CutLemmas.{cut_found, cut_absent}
 use Rattle.revision_shelf.proofs.remove.cut.Goals as goal
 

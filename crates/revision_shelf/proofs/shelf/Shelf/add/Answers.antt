@@ -1,11 +1,10 @@
 -- The new revision is kept behind all others.
-use Rattle.std.proofs.Common.{rules, ◌≡◌, ℕ, ◌+◌, ◌<◌, ◌≤◌, Some, nat_eq, List, [], ◌∷◌, ◌++◌, cond, length, ◌∙◌, sym, ap, subst, arith}
+use Rattle.std.proofs.Common.{◌≡◌, ◌+◌, ◌<◌, ◌≤◌, List, [], ◌∷◌, ◌++◌, sym, subst, arith}
 use Rattle.std.specs.List.{AllByRecursion}
-use Rattle.std.specs.Map.{lookup}
 use Rattle.site_types.specs.Ids.{IsRevisionId}
 use Rattle.site_types.specs.declared.revision.Revision.{Revision}
 use Rattle.revision_shelf.specs.declared.shelf.Kept.{Kept}
-use Rattle.revision_shelf.specs.Shelf.{RevisionList, weight_of, total_weight}
+use Rattle.revision_shelf.specs.Shelf.{RevisionList}
 use Rattle.revision_shelf.specs.Kept.{revisions_seen, IsKept}
 use Rattle.revision_shelf.proofs.SeenLemmas.{seen-kept}
 use Rattle.revision_shelf.proofs.RiseLemmas.{total-bound}

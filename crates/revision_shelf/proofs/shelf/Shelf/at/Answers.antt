@@ -1,8 +1,5 @@
 -- The revision at the place is what is kept of the id there.
-use Rattle.std.proofs.Common.{◌≡◌, ◌∙◌, ℕ, nat_eq, List, Option, Some, None, slice_get, sym, ap, subst, rules}
-use Rattle.std.specs.Map.{lookup}
-use Rattle.site_types.specs.declared.revision.Revision.{Revision}
-use Rattle.revision_shelf.specs.declared.shelf.Kept.{Kept}
+use Rattle.std.proofs.Common.{◌≡◌, ℕ, List, Some, slice_get, sym, subst}
 use Rattle.revision_shelf.specs.Shelf.{RevisionList}
 use Rattle.revision_shelf.proofs.SeenLemmas.{kept_at, none_at, seen-kept}
 use Rattle.revision_shelf.proofs.shelf.Shelf.at.Goals as goal

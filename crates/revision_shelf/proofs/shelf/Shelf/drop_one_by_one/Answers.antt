@@ -1,5 +1,5 @@
 -- Page by page.
-use Rattle.std.proofs.Common.{refl, arith}
+use Rattle.std.proofs.Common.{arith}
 use Rattle.site_types.specs.declared.revision.Revision.{Revision}
 use Rattle.revision_shelf.proofs.PagesLemmas.{one_gone, all_gone}
 use Rattle.revision_shelf.proofs.shelf.Shelf.drop_one_by_one.Goals as goal

@@ -1,5 +1,5 @@
 -- The other pages' revisions are those that were there.
-use Rattle.std.proofs.Common.{◌≡◌, ℕ, ◌≤◌, length}
+use Rattle.std.proofs.Common.{◌≡◌, ◌≤◌, length}
 use Rattle.revision_shelf.specs.Shelf.{without_page}
 use Rattle.revision_shelf.proofs.shelf.Shelf.drop_page.Given as goal
 

@@ -1,0 +1,4 @@
+pub mod KeyLemmas
+pub mod PlaceLemmas
+pub mod SearchLemmas
+pub mod PairLemmas

@@ -1,0 +1,4 @@
+pub mod DeskLemmas
+pub mod PlaceLemmas
+pub mod RiseLemmas
+pub mod AnswerLemmas

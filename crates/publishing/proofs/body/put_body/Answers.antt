@@ -1,0 +1,15 @@
+-- The page gets the moments of its fields.
+use Rattle.std.proofs.Common.{ℕ, Option, ◌∙◌, ap}
+use Rattle.time_table.specs.Table.{with_option}
+use Rattle.publishing.proofs.TimesLemmas.{timed-with_body}
+use Rattle.publishing.proofs.body.put_body.Goals as goal
+
+pub returns-clause-timed : goal.returns-clause-timed
+returns-clause-timed c = λ timed.
+    let times = c.args.times.now in
+    timed-with_body times _ _ _ c.args.shelf.now.revisions c.args.page c.args.body c.requires.there
+    (c.put.ensures.entries
+    ∙ ap (λ (at : Option ℕ). with_option c.args.page at times.expiries.entries) c.expiry.ensures)
+    (c.put-2.ensures.entries
+    ∙ ap (λ (at : Option ℕ). with_option c.args.page at times.go_lives.entries) c.go_live.ensures)
+    c.set_body.ensures.pages timed

@@ -1,0 +1,6 @@
+-- The law holds of each list of pairs.
+use Rattle.time_table.proofs.TableLemmas.{found_with}
+use Rattle.time_table.proofs.laws.moment_is_set.Goals as goal
+
+pub returns : goal.returns
+returns c = found_with

@@ -15,7 +15,7 @@ use Rattle.page_store.specs.declared.plan.MovePlan.{MovePlan}
 use Rattle.site_model.specs.Rights.{user_of}
 use Rattle.tree_model.specs.Changes.{path_in}
 use Rattle.flat_model.specs.Lists.{PeopleLists, PartLists}
-use Rattle.flat_model.specs.Made.{Pages, with_page, with_move, outside, rows_made, revisions_left, people_left}
+use Rattle.flat_model.specs.Made.{Pages, with_page, with_move, outside, rows_made, revisions_left, purge_left, people_left}
 use Rattle.flat_model.specs.declared.change.Change.{Change}
 use Rattle.flat_model.specs.declared.change.TreeChange.{TreeChange}
 use Rattle.flat_model.specs.declared.change.TreeChange.TheVariants as trees
@@ -72,5 +72,6 @@ pub record Fits (lists : PartLists) (change : Change) : Type 0 where
   pub tree : TreeFits change.tree lists.pages
   pub bodies : BodiesFit change.bodies (rows_made change.tree lists.pages)
   pub gone : AllByRecursion IsPageId change.gone
-  pub revisions : RevisionsFit change.revisions (revisions_left change.gone lists.revisions)
+  pub revisions : RevisionsFit change.revisions
+      (purge_left change.purge (revisions_left change.gone lists.revisions))
   pub people : PeopleFit change.people (people_left change.gone lists.people)

@@ -1,5 +1,5 @@
 -- What a change leaves of the lists, store by store. It speaks of no world, command or caller.
-use Rattle.std.specs.Prelude.{ℕ, ◌+◌, ◌==◌, not, List, [], ◌∷◌, ◌++◌, map, filter, take, drop}
+use Rattle.std.specs.Prelude.{ℕ, Bool, ◌+◌, ◌==◌, ◌&&◌, ◌||◌, not, List, [], ◌∷◌, ◌++◌, map, filter, take, drop, Option, Some, None}
 use Rattle.std.specs.List.{list_any}
 use Rattle.page_tree.specs.Rows.{Row, with_row}
 use Rattle.step_path.specs.Path.{steps_of}
@@ -7,6 +7,7 @@ use Rattle.site_types.specs.declared.body.Body.{Body}
 use Rattle.site_types.specs.declared.page_row.PageRow.{PageRow}
 use Rattle.site_types.specs.declared.revision.Revision.{Revision}
 use Rattle.site_types.specs.declared.world_rows.Grant.{Grant}
+use Rattle.site_model.specs.Bodies.{same_number}
 use Rattle.tree_model.specs.Changes.{path_in, with_urls}
 use Rattle.page_store.specs.Changes.{with_body, with_slug, without_range}
 use Rattle.page_store.specs.PageRows.{seen_row, parent_id}
@@ -21,6 +22,7 @@ use Rattle.flat_model.specs.declared.change.TreeChange.{TreeChange}
 use Rattle.flat_model.specs.declared.change.TreeChange.TheVariants as trees
 use Rattle.flat_model.specs.declared.change.PeopleChange.{PeopleChange}
 use Rattle.flat_model.specs.declared.change.PeopleChange.TheVariants as people
+use Rattle.flat_model.specs.declared.change.Purge.{Purge}
 
 -- the rows of pages
 abbrev pub Pages : Type 0
@@ -79,6 +81,21 @@ of_others page gone items = filter (λ item. not (list_any (λ id. id == page it
 abbrev pub revisions_left : List ℕ → List Revision → List Revision
 revisions_left gone revisions = of_others (λ (revision : Revision). revision.page) gone revisions
 
+-- whether a purge leaves its page this revision: it needs it
+abbrev pub needs_revision : Purge → ℕ → Bool
+needs_revision purge id =
+    same_number purge.shown (Some id)
+    || (same_number purge.latest (Some id)
+    || (same_number purge.scheduled (Some id) || same_number purge.moderated (Some id)))
+
+-- the revisions that a purge leaves, if there is one
+abbrev pub purge_left : Option Purge → List Revision → List Revision
+purge_left None revisions = revisions
+purge_left (Some purge) revisions =
+    filter
+    (λ revision. not ((revision.page == purge.page) && not (needs_revision purge revision.id)))
+    revisions
+
 -- users, groups, memberships and grants, without the grants at these pages
 abbrev pub people_left : List ℕ → PeopleLists → PeopleLists
 people_left gone lists =
@@ -98,12 +115,13 @@ people_made (people.Grant group page permission on) lists =
     record lists { grants = grants_with lists.grants group page permission on }
 
 -- The lists after a change: the rows change, and then fields of pages; what belongs to pages that go
--- goes, and then revisions come, and users, groups, memberships and grants change.
+-- goes, and what a purge takes; then revisions come, and users, groups, memberships and grants change.
 abbrev pub made : Change → PartLists → PartLists
 made change lists =
     record lists {
       pages = with_bodies change.bodies (rows_made change.tree lists.pages);
-      revisions = revisions_left change.gone lists.revisions ++ change.revisions;
+      revisions = purge_left change.purge (revisions_left change.gone lists.revisions)
+          ++ change.revisions;
       people = people_made change.people (people_left change.gone lists.people);
       time = change.time;
       next_page = change.next_page;

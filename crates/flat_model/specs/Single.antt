@@ -1,5 +1,6 @@
 -- Changes of one store and of the time.
-use Rattle.std.specs.Prelude.{ℕ, []}
+use Rattle.std.specs.Prelude.{ℕ, [], ◌∷◌, None}
+use Rattle.site_types.specs.declared.body.Body.{Body}
 use Rattle.flat_model.specs.declared.change.Change.{Change}
 use Rattle.flat_model.specs.declared.change.TreeChange.{TreeChange}
 use Rattle.flat_model.specs.declared.change.TreeChange.TheVariants as trees
@@ -13,6 +14,7 @@ tree_change tree time next_page next_revision =
       tree = tree;
       bodies = [];
       gone = [];
+      purge = None;
       revisions = [];
       people = people.Nothing;
       time = time;
@@ -24,3 +26,10 @@ tree_change tree time next_page next_revision =
 abbrev pub people_change : PeopleChange → ℕ → ℕ → ℕ → Change
 people_change people time next_page next_revision =
     record (tree_change trees.Nothing time next_page next_revision) { people = people }
+
+-- no store changes but the fields of one page, and the time and the next ids are these
+abbrev pub body_change : ℕ → Body → ℕ → ℕ → ℕ → Change
+body_change page body time next_page next_revision =
+    record (tree_change trees.Nothing time next_page next_revision) {
+      bodies = (page, body) ∷ [];
+    }

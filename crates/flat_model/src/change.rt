@@ -1,11 +1,11 @@
 //! What becomes of each store.
-ghost use Rattle.std.specs.Prelude.{◌≡◌};
-ghost use Rattle.flat_model.specs.Single.{tree_change, people_change};
+ghost use Rattle.std.specs.Prelude.{◌≡◌, IfOk};
+ghost use Rattle.flat_model.specs.Single.{tree_change, people_change, body_change};
 
 use page_store::{MovePlan, Urls};
 use site_types::{
-    Body, Digest, GroupId, Ids, Items, Moment, PageId, PageRow, Permission, Revision, Slug, Url,
-    UserId,
+    Body, Digest, GroupId, Ids, Items, Moment, NoMemory, PageId, PageRow, Permission, Revision,
+    RevisionId, Slug, Url, UserId,
 };
 use std::alloc::Global;
 
@@ -19,6 +19,8 @@ pub struct Change {
     pub bodies: Items<(PageId, Body)>,
     /// The pages whose revisions and grants go.
     pub gone: Ids,
+    /// The revisions of one page that go, but for those that it needs.
+    pub purge: Option<Purge>,
     /// The revisions that come, rising.
     pub revisions: Items<Revision>,
     /// What becomes of users, groups, memberships and grants.
@@ -29,6 +31,21 @@ pub struct Change {
     pub next_page: u32,
     /// The number of the next revision then.
     pub next_revision: u32,
+}
+
+/// The revisions of a page go, but for these that it needs.
+#[derive(Clone, Copy, Debug)]
+pub struct Purge {
+    /// The page.
+    pub page: PageId,
+    /// The revision that it shows.
+    pub shown: Option<RevisionId>,
+    /// Its latest revision.
+    pub latest: Option<RevisionId>,
+    /// The revision that is scheduled.
+    pub scheduled: Option<RevisionId>,
+    /// The revision that is moderated.
+    pub moderated: Option<RevisionId>,
 }
 
 /// What becomes of the rows of pages.
@@ -115,6 +132,7 @@ impl Change {
             tree,
             bodies: Items::from_vec(Vec::new(alloc)),
             gone: Ids::from_vec(Vec::new(alloc)),
+            purge: None,
             revisions: Items::from_vec(Vec::new(alloc)),
             people: PeopleChange::Nothing,
             time,
@@ -138,11 +156,36 @@ impl Change {
             tree: TreeChange::Nothing,
             bodies: Items::from_vec(Vec::new(alloc)),
             gone: Ids::from_vec(Vec::new(alloc)),
+            purge: None,
             revisions: Items::from_vec(Vec::new(alloc)),
             people,
             time,
             next_page,
             next_revision,
         }
+    }
+
+    /// A change of the fields of one page and of the time, with these next ids.
+    pub fn of_body(
+        alloc: Global,
+        page: PageId,
+        body: Body,
+        time: Moment,
+        next_page: u32,
+        next_revision: u32,
+    ) -> Result<Change, NoMemory>
+        ensures { IfOk result (λ change. change ≡ body_change page body time next_page next_revision) }
+    {
+        let mut bodies = Vec::with_capacity(alloc, 1)?;
+        bodies.push((page, body))?;
+        let mut change = Change::of_tree(
+            alloc,
+            TreeChange::Nothing,
+            time,
+            next_page,
+            next_revision,
+        );
+        change.bodies = Items::from_vec(bodies);
+        Ok(change)
     }
 }

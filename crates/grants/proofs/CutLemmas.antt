@@ -8,8 +8,8 @@ use Rattle.site_model.specs.Rights.{permission_number}
 use Rattle.site_model.specs.Users.{grant_key}
 use Rattle.site_model.specs.Sound.{KeysRise}
 use Rattle.site_model.proofs.OrderLemmas.{rise_filter}
-use Rattle.grants.specs.Places.{place_of}
-use Rattle.grants.proofs.KeyLemmas.{before_trans}
+use Rattle.desk_pairs.specs.Places.{place_of}
+use Rattle.desk_pairs.proofs.KeyLemmas.{before_trans}
 
 module _ {Item : Type 0} (key : Item → List ℕ) (low high : List ℕ)
     (higher : (item : Item) → comes_before (key item) low ≡ true → comes_before (key item) high ≡ true) where

@@ -6,9 +6,9 @@ use Rattle.site_model.specs.Rights.{permission_number}
 use Rattle.site_model.specs.Users.{grant_key, is_grant}
 use Rattle.site_model.specs.Sound.{KeysRise}
 use Rattle.flat_model.specs.People.{grants_with}
-use Rattle.grants.specs.Places.{search_told}
-use Rattle.grants.proofs.PlaceLemmas.{IsTestOf}
-use Rattle.grants.proofs.SearchLemmas.{taken_where_told, put_where_told, rise_with}
+use Rattle.desk_pairs.specs.Places.{search_told}
+use Rattle.desk_pairs.proofs.PlaceLemmas.{IsTestOf}
+use Rattle.desk_pairs.proofs.SearchLemmas.{taken_where_told, put_where_told, rise_with}
 
 -- whether this is that grant
 abbrev is_this : Grant → Grant → Bool

@@ -15,7 +15,7 @@ use Rattle.site_types.specs.declared.world_rows.UserRow.{UserRow}
 use Rattle.site_model.specs.Rights.{gives, is_same, is_superuser, is_granted, held}
 use Rattle.site_model.proofs.RightLemmas.{held_by_walks}
 use Rattle.grants.specs.declared.right.Held.{Held}
-use Rattle.grants.specs.Granted.{held_where, held_either}
+use Rattle.grants.specs.Granted.{held_where, held_either, gives_any}
 use Rattle.grants.specs.Needs.{seen_held}
 
 -- tests that agree at each permission hold the same
@@ -60,105 +60,51 @@ module _ {Item : Type 0} where
       choice false more = more
 
 -- one grant more
-pub one_more : (grants : List Grant) (i : ℕ) (grant : Grant) (before : Held) →
-    i < length grants → grant ≡ get_or grants i grant →
-    before ≡ held_where (λ p. list_any (λ (g : Grant). is_same g.permission p) (take i grants)) →
-    held_either before (held_where (is_same grant.permission))
-    ≡ held_where (λ p. list_any (λ (g : Grant). is_same g.permission p) (take (i + 1) grants))
-one_more grants i grant before within is so_far =
-    ap (λ held. held_either held (held_where (is_same grant.permission))) so_far
-    ∙ held_agree
-    (λ p. list_any (λ (g : Grant). is_same g.permission p) (take i grants)
-    || is_same grant.permission p)
-    (λ p. list_any (λ (g : Grant). is_same g.permission p) (take (i + 1) grants))
-    (λ p. ap (λ (g : Grant).
-    list_any (λ (h : Grant). is_same h.permission p) (take i grants) || is_same g.permission p) is
-    ∙ sym (list_any_more (λ (g : Grant). is_same g.permission p) grants i grant within))
+pub one_more : (test : Permission → Grant → Bool) (grants : List Grant) (i : ℕ) (grant : Grant)
+    (before : Held) → i < length grants → grant ≡ get_or grants i grant →
+    before ≡ held_where (λ p. list_any (test p) (take i grants)) →
+    held_either before (held_where (λ p. test p grant))
+    ≡ held_where (λ p. list_any (test p) (take (i + 1) grants))
+one_more test grants i grant before within is so_far =
+    ap (λ held. held_either held (held_where (λ p. test p grant))) so_far
+    ∙ held_agree (λ p. list_any (test p) (take i grants) || test p grant)
+    (λ p. list_any (test p) (take (i + 1) grants))
+    (λ p. ap (λ (g : Grant). list_any (test p) (take i grants) || test p g) is
+    ∙ sym (list_any_more (test p) grants i grant within))
 
--- a test and two others, in another order
-turned_tests : (page_is same : Bool) (one other : ℕ) →
-    (page_is && nat_eq one other) && same
-    ≡ page_is && (same && (nat_eq other one || false))
-turned_tests page_is same one other = grind (arith, nat_tests)
+-- whether a group is that of one of these memberships
+group_among : (group : ℕ) (members : List Member) →
+    list_any (λ (m : Member). nat_eq m.group group) members
+    ≡ list_any (λ g. nat_eq g group) (map (λ (m : Member). m.group) members)
+group_among group [] = refl
+group_among group (member ∷ members) =
+    ap (λ t. nat_eq member.group group || t) (group_among group members)
 
--- what the grants to a group at a page give
-pub given_to : (grants : List Grant) (page group : ℕ) →
-    held_where (λ p. list_any (λ (g : Grant). is_same g.permission p)
-    (filter (λ (g : Grant). nat_eq g.page page && nat_eq g.group group) grants))
-    ≡ held_where (λ p. list_any (gives (group ∷ []) p page) grants)
-given_to grants page group =
+-- three tests, in another order
+last_first : (a b c : Bool) → a && (b && c) ≡ a && (c && b)
+last_first true true true = refl
+last_first true true false = refl
+last_first true false true = refl
+last_first true false false = refl
+last_first false b c = refl
+
+-- what the grants at a page give is what all grants give there
+pub given_here : (grants : List Grant) (members : List Member) (page : ℕ) →
+    held_where (λ p. list_any (gives_any members p)
+    (filter (λ (g : Grant). nat_eq g.page page) grants))
+    ≡ held_where (λ p. list_any (gives (map (λ (m : Member). m.group) members) p page) grants)
+given_here grants members page =
     held_agree
-    (λ p. list_any (λ (g : Grant). is_same g.permission p)
-    (filter (λ (g : Grant). nat_eq g.page page && nat_eq g.group group) grants))
-    (λ p. list_any (gives (group ∷ []) p page) grants)
-    (λ p. any_kept (λ (g : Grant). nat_eq g.page page && nat_eq g.group group)
-    (λ (g : Grant). is_same g.permission p) grants
-    ∙ any_agree
-    (λ (g : Grant). (nat_eq g.page page && nat_eq g.group group) && is_same g.permission p)
-    (gives (group ∷ []) p page)
-    (λ g. turned_tests (nat_eq g.page page) (is_same g.permission p) g.group group) grants)
-
--- two tests and one of two others
-either_test : (a b c d : Bool) → a && (b && (c || d)) ≡ (a && (b && c)) || (a && (b && d))
-either_test true true c d = refl
-either_test true false c d = refl
-either_test false b c d = refl
-
--- a grant gives one of more groups what it gives the first of them or the last
-pub gives-append : (groups : List ℕ) (group : ℕ) (p : Permission) (page : ℕ) (grant : Grant) →
-    gives (groups ++ group ∷ []) p page grant
-    ≡ gives groups p page grant || gives (group ∷ []) p page grant
-gives-append groups group p page grant =
-    rw (list_any-append (λ g. nat_eq g grant.group) groups (group ∷ []))
-    (either_test (nat_eq grant.page page) (is_same grant.permission p)
-    (list_any (λ g. nat_eq g grant.group) groups)
-    (nat_eq group grant.group || false))
-
--- one group more
-pub group_more : (grants : List Grant) (members : List Member) (page i : ℕ) (member : Member)
-    (before : Held) → i < length members → member ≡ get_or members i member →
-    before ≡ held_where (λ p. list_any
-    (gives (map (λ (m : Member). m.group) (take i members)) p page) grants) →
-    held_either before (held_where (λ p. list_any (gives (member.group ∷ []) p page) grants))
-    ≡ held_where (λ p. list_any
-    (gives (map (λ (m : Member). m.group) (take (i + 1) members)) p page) grants)
-group_more grants members page i member before within is so_far =
-    let group : Member → ℕ = λ m. m.group in
-    let groups = map group (take i members) in
-    let more : map group (take (i + 1) members) ≡ groups ++ member.group ∷ [] =
-    map_more group members i member within
-    ∙ ap (λ (m : Member). groups ++ m.group ∷ []) (sym is) in
-    ap (λ held. held_either held
-    (held_where (λ p. list_any (gives (member.group ∷ []) p page) grants))) so_far
-    ∙ held_agree
-    (λ p. list_any (gives groups p page) grants
-    || list_any (gives (member.group ∷ []) p page) grants)
-    (λ p. list_any (gives (map group (take (i + 1) members)) p page) grants)
-    (λ p. sym (any_either (gives groups p page) (gives (member.group ∷ []) p page) grants)
-    ∙ (any_agree (λ (g : Grant). gives groups p page g || gives (member.group ∷ []) p page g)
-    (gives (groups ++ member.group ∷ []) p page)
-    (λ g. sym (gives-append groups member.group p page g)) grants
-    ∙ ap (λ gs. list_any (gives gs p page) grants) (sym more)))
-
--- no grant gives anything to no group
-none_gives : (grants : List Grant) (p : Permission) (page : ℕ) →
-    false ≡ list_any (gives [] p page) grants
-none_gives [] p page = refl
-none_gives (grant ∷ grants) p page =
-    rw (← none_gives grants p page)
-    (never (nat_eq grant.page page) (is_same grant.permission p))
-  where
-    never : (a b : Bool) → false ≡ (a && (b && false)) || false
-    never true true = refl
-    never true false = refl
-    never false b = refl
-
--- so nothing is held where there is no group
-pub nobody_given : (grants : List Grant) (page : ℕ) →
-    held_where (λ p. false) ≡ held_where (λ p. list_any (gives [] p page) grants)
-nobody_given grants page =
-    held_agree (λ p. false) (λ p. list_any (gives [] p page) grants)
-    (λ p. none_gives grants p page)
+    (λ p. list_any (gives_any members p) (filter (λ (g : Grant). nat_eq g.page page) grants))
+    (λ p. list_any (gives (map (λ (m : Member). m.group) members) p page) grants)
+    (λ p. any_kept (λ (g : Grant). nat_eq g.page page) (gives_any members p) grants
+    ∙ any_agree (λ (g : Grant). nat_eq g.page page && gives_any members p g)
+    (gives (map (λ (m : Member). m.group) members) p page)
+    (λ g. ap (λ t. nat_eq g.page page && (t && is_same g.permission p))
+    (group_among g.group members)
+    ∙ last_first (nat_eq g.page page)
+    (list_any (λ group. nat_eq group g.group) (map (λ (m : Member). m.group) members))
+    (is_same g.permission p)) grants)
 
 -- what is granted on the walk to a page to the groups of these memberships
 abbrev pub granted_along : TreePart → ℕ → List Member → List Grant → Held

@@ -1,6 +1,3 @@
-pub mod KeyLemmas
-pub mod PlaceLemmas
-pub mod SearchLemmas
 pub mod MemberLemmas
 pub mod GrantLemmas
 pub mod CutLemmas
@@ -14,5 +11,6 @@ pub mod UpLemmas
 pub mod AboveLemmas
 pub mod HeldLemmas
 pub mod StandingLemmas
+pub mod LeftLemmas
 pub mod StepLemmas
 pub mod FrontLemmas

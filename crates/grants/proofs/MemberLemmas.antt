@@ -5,9 +5,9 @@ use Rattle.site_types.specs.declared.world_rows.Member.{Member}
 use Rattle.site_model.specs.Users.{member_key, membership, is_membership}
 use Rattle.site_model.specs.Sound.{KeysRise}
 use Rattle.flat_model.specs.People.{members_with}
-use Rattle.grants.specs.Places.{search_told}
-use Rattle.grants.proofs.PlaceLemmas.{IsTestOf}
-use Rattle.grants.proofs.SearchLemmas.{taken_where_told, put_where_told, rise_with}
+use Rattle.desk_pairs.specs.Places.{search_told}
+use Rattle.desk_pairs.proofs.PlaceLemmas.{IsTestOf}
+use Rattle.desk_pairs.proofs.SearchLemmas.{taken_where_told, put_where_told, rise_with}
 
 -- a membership has the key where it is the membership
 pub tests_member : (user group : ℕ) →

@@ -1,5 +1,5 @@
 -- The first need that is not met, by what is held and what is kept of a page.
-use Rattle.std.proofs.Common.{◌≡◌, ℕ, Bool, true, false, not, ◌&&◌, ◌||◌, cond, nat_eq, List, [], ◌∷◌, ◌++◌, Option, Some, None, IsSome, is_some, unwrap_or, refl, sym, ap, ◌∙◌, rules}
+use Rattle.std.proofs.Common.{◌≡◌, ℕ, Bool, true, false, ◌&&◌, ◌||◌, cond, nat_eq, List, [], ◌∷◌, ◌++◌, Option, Some, None, IsSome, is_some, unwrap_or, refl, sym, ap, ◌∙◌, rules}
 use Rattle.std.specs.Prelude.{option_and_then}
 use Rattle.std.specs.Option.{option_map}
 use Rattle.page_tree.specs.Tree.{Forest, bare, grown, has_page, node_of}
@@ -11,13 +11,12 @@ use Rattle.site_types.specs.declared.permission.Permission.TheVariants.{Add, Cha
 use Rattle.site_types.specs.declared.position.Position.{Position}
 use Rattle.site_types.specs.declared.world_rows.UserRow.{UserRow}
 use Rattle.tree_model.specs.Places.{is_beside, parent_at}
-use Rattle.tree_model.specs.Shape.{AllPages}
 use Rattle.tree_model.proofs.PageLemmas.{AllPages-node_of}
 use Rattle.page_store.specs.Pages.{Page}
 use Rattle.site_model.specs.World.{TreePart}
 use Rattle.site_model.specs.Rights as rights
 use Rattle.site_model.specs.Rights.{rights_of, above_of, has, permission_number, is_superuser}
-use Rattle.site_model.specs.Views.{first_body, body_of, view_of, meets, any_live, may_edit}
+use Rattle.site_model.specs.Views.{first_body, body_of, view_of, meets, may_edit}
 use Rattle.site_model.specs.Needs as needs
 use Rattle.site_model.specs.Needs.{first_unmet, unless_met, need_at, need_where, edit_need, unmet}
 use Rattle.site_model.proofs.ViewLemmas.{seen, view_is}

@@ -1,7 +1,7 @@
 -- The first six rules, by the rows and by what is kept of a page.
-use Rattle.std.proofs.Common.{◌≡◌, ℕ, Bool, true, false, not, ◌&&◌, cond, nat_eq, List, [], ◌∷◌, Option, Some, None, Ok, Err, is_some, refl, sym, ap, ◌∙◌}
+use Rattle.std.proofs.Common.{◌≡◌, ℕ, Bool, true, false, nat_eq, List, [], ◌∷◌, Option, Some, None, Ok, Err, is_some, refl, sym, ap, ◌∙◌}
 use Rattle.std.specs.List.{list_any}
-use Rattle.std.specs.Option.{option_map, option_and_then}
+use Rattle.std.specs.Option.{option_map}
 use Rattle.page_tree.specs.Tree.{Forest, has_page}
 use Rattle.page_tree.specs.Rows.{row_with, rows_of}
 use Rattle.page_tree.proofs.RowLemmas.{has_page-rows}
@@ -9,17 +9,16 @@ use Rattle.site_types.specs.declared.body.Body.{Body}
 use Rattle.site_types.specs.declared.command.Command.{Command}
 use Rattle.site_types.specs.declared.page_row.PageRow.{PageRow}
 use Rattle.site_types.specs.declared.refusal.Refusal.{Refusal}
-use Rattle.site_types.specs.declared.refusal.Refusal.TheVariants.{NoPage, IsRoot, IsAlias, Denied}
+use Rattle.site_types.specs.declared.refusal.Refusal.TheVariants.{NoPage, IsRoot, Denied}
 use Rattle.page_store.specs.PageRows.{page_row}
 use Rattle.page_store.specs.Pages.{Page}
 use Rattle.site_model.specs.World.{TreePart}
-use Rattle.site_model.specs.Rights.{rights_of, above_of, Rights}
+use Rattle.site_model.specs.Rights.{rights_of, Rights}
 use Rattle.site_model.specs.Needs.{needs_of, may}
-use Rattle.site_model.specs.Rules.{refused_if, first_of, no_page, no_pages, are_root}
-use Rattle.site_model.specs.Views.{body_of, view_of, stage_of}
-use Rattle.site_model.specs.Front as front
-use Rattle.site_model.specs.Front.{CommandRow, Stops, StopsNobody, StopsOthers, StopsEveryone, locked, aliased, in_moderation, locked_by, stage_in, is_alias, row_of, front_by, front_rules}
-use Rattle.site_model.proofs.ViewLemmas.{seen, view_is}
+use Rattle.site_model.specs.Rules.{first_of, no_page, no_pages, are_root}
+use Rattle.site_model.specs.Views.{body_of}
+use Rattle.site_model.specs.Front.{CommandRow, Stops, StopsNobody, StopsOthers, StopsEveryone, locked, aliased, in_moderation, row_of, front_by, front_rules}
+use Rattle.site_model.proofs.ViewLemmas.{view_is}
 use Rattle.grants.specs.declared.need.Need.{Need}
 use Rattle.grants.specs.Needs.{need_with, need_told, rule_told}
 use Rattle.grants.specs.Stopping.{stops_of, alias_rule}

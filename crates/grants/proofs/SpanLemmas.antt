@@ -6,8 +6,12 @@ use Rattle.std.proofs.lemmas.Bool.Decides.{nat_tests}
 use Rattle.std.proofs.lemmas.List.{take_rest}
 use Rattle.std.proofs.lemmas.List.Elements.{filter_agree}
 use Rattle.page_tree.specs.Rows.{comes_before}
+use Rattle.site_types.specs.declared.world_rows.Member.{Member}
 use Rattle.site_model.specs.Sound.{KeysRise}
+use Rattle.site_model.specs.Users.{member_key}
 use Rattle.site_model.proofs.OrderLemmas.{rise_filter}
+use Rattle.desk_pairs.proofs.PlaceLemmas.{IsTestOf}
+use Rattle.grants.specs.Granted.{group_key}
 
 module _ {Item : Type 0} where
   -- a test that each item passes which comes before one that passes
@@ -128,27 +132,64 @@ pub lower_or_same : (limit x y : ℕ) (p : Bool) → cond (nat_eq x y) p (nat_lt
     nat_le y limit ≡ true → nat_le x limit ≡ true
 lower_or_same limit x y p before lower = grind (arith, nat_tests)
 
--- two numbers before two others
-pub lower_pair : (one other x y u v : ℕ) (p : Bool) →
-    cond (nat_eq x u) (cond (nat_eq y v) p (nat_lt y v)) (nat_lt x u) ≡ true →
-    cond (nat_eq u one) (nat_lt v other) (nat_lt u one) ≡ true →
-    cond (nat_eq x one) (nat_lt y other) (nat_lt x one) ≡ true
-lower_pair one other x y u v p before lower = grind (arith, nat_tests)
-
--- also where they may be the same
-pub lower_or_same_pair : (one other x y u v : ℕ) (p : Bool) →
-    cond (nat_eq x u) (cond (nat_eq y v) p (nat_lt y v)) (nat_lt x u) ≡ true →
-    cond (nat_eq u one) (nat_le v other) (nat_lt u one) ≡ true →
-    cond (nat_eq x one) (nat_le y other) (nat_lt x one) ≡ true
-lower_or_same_pair one other x y u v p before lower = grind (arith, nat_tests)
-
 -- a number that is not below another and not above it is the same
 pub between_is : (limit x : ℕ) → not (nat_lt x limit) && nat_le x limit ≡ nat_eq x limit
 between_is limit x = grind (arith, nat_tests)
 
--- so are two
-pub between_pair : (one other x y : ℕ) →
-    not (cond (nat_eq x one) (nat_lt y other) (nat_lt x one))
-    && cond (nat_eq x one) (nat_le y other) (nat_lt x one)
-    ≡ nat_eq x one && nat_eq y other
-between_pair one other x y = grind (arith, nat_tests)
+-- one number of two keys of one user
+group_step : (user u v g h : ℕ) → nat_eq u user ≡ true → nat_eq v user ≡ true →
+    cond (nat_eq u v) (cond (nat_eq g h) false (nat_lt g h)) (nat_lt u v) ≡ true →
+    cond (nat_eq g h) false (nat_lt g h) ≡ true
+group_step user u v g h first second before = grind (arith, nat_tests)
+
+-- the later memberships of a user come after by group
+later_groups : (user : ℕ) (member : Member) (later : List Member) →
+    nat_eq member.user user ≡ true →
+    AllByRecursion (λ (other : Member).
+    comes_before (member_key member) (member_key other) ≡ true) later →
+    AllByRecursion (λ (other : Member).
+    comes_before (group_key member) (group_key other) ≡ true)
+    (filter (λ (other : Member). nat_eq other.user user) later)
+later_groups user member [] own all = tt
+later_groups user member (next ∷ later) own all =
+    choice (nat_eq next.user user) refl (later_groups user member later own all.1)
+  where
+    choice : (t : Bool) → nat_eq next.user user ≡ t →
+        AllByRecursion (λ (other : Member).
+        comes_before (group_key member) (group_key other) ≡ true)
+        (filter (λ (other : Member). nat_eq other.user user) later) →
+        AllByRecursion (λ (other : Member).
+        comes_before (group_key member) (group_key other) ≡ true)
+        (cond t (next ∷ filter (λ (other : Member). nat_eq other.user user) later)
+        (filter (λ (other : Member). nat_eq other.user user) later))
+    choice true is more =
+        (group_step user member.user next.user member.group next.group own is all.0, more)
+    choice false is more = more
+
+-- the memberships of a user rise by group
+pub groups_rise : (user : ℕ) (members : List Member) → KeysRise member_key members →
+    KeysRise group_key (filter (λ (member : Member). nat_eq member.user user) members)
+groups_rise user [] rise = tt
+groups_rise user (member ∷ members) rise =
+    choice (nat_eq member.user user) refl (groups_rise user members rise.1)
+  where
+    choice : (t : Bool) → nat_eq member.user user ≡ t →
+        KeysRise group_key (filter (λ (other : Member). nat_eq other.user user) members) →
+        KeysRise group_key
+        (cond t (member ∷ filter (λ (other : Member). nat_eq other.user user) members)
+        (filter (λ (other : Member). nat_eq other.user user) members))
+    choice true is more = (later_groups user member members is rise.0, more)
+    choice false is more = more
+
+-- a membership has the key of a group where it is in the group
+pub tests_group : (group : ℕ) →
+    IsTestOf group_key (group ∷ []) (λ (member : Member). nat_eq member.group group)
+tests_group group =
+    record {
+      means = λ (member : Member) (passed : nat_eq member.group group ≡ true).
+          let same : member.group ≡ group = grind (arith, nat_tests) in
+          cc;
+      names = λ (member : Member) (same : group_key member ≡ group ∷ []).
+          let first : member.group ≡ group = cc in
+          grind (arith, nat_tests);
+    }

@@ -1,7 +1,6 @@
 -- What is in memory stands for a world exactly where its lists are those of the world; room makes no
 -- difference.
-use Rattle.std.proofs.Common.{◌≡◌, ◌+◌, [], refl, sym, ap, ◌∙◌}
-use Rattle.page_tree.specs.Rows.{rows_of}
+use Rattle.std.proofs.Common.{◌≡◌, ◌+◌, refl, sym, ap, ◌∙◌}
 use Rattle.site_model.specs.World as worlds
 use Rattle.flat_model.specs.Flat.{people_of, lists_of}
 use Rattle.flat_model.specs.Lists.{PeopleLists, PartLists}
@@ -23,7 +22,7 @@ pub stands_seen : (kept : TreePart) (part : worlds.TreePart) → StandsFor kept 
 stands_seen kept part stands =
     lists_are (seen kept) (lists_of part) stands.pages stands.revisions
     (people_seen kept.grants part stands.lists) (sym stands.no_tasks) (sym stands.no_workflows)
-    (sym stands.no_desks) stands.time stands.next_page stands.next_revision
+    stands.desks stands.time stands.next_page stands.next_revision
 
 -- what has the lists of a world stands for it
 pub seen_stands : (kept : TreePart) (part : worlds.TreePart) → seen kept ≡ lists_of part →
@@ -41,7 +40,7 @@ seen_stands kept part is =
       };
       no_tasks = sym (ap (λ (l : PartLists). l.tasks) is);
       no_workflows = sym (ap (λ (l : PartLists). l.workflows) is);
-      no_desks = sym (ap (λ (l : PartLists). l.desk_pairs) is);
+      desks = ap (λ (l : PartLists). l.desk_pairs) is;
       time = ap (λ (l : PartLists). l.time) is;
       next_page = ap (λ (l : PartLists). l.next_page) is;
       next_revision = ap (λ (l : PartLists). l.next_revision) is;
@@ -53,6 +52,7 @@ same_itself kept = record {
   pages = refl;
   revisions = refl;
   lists = record { users = refl; groups = refl; members = refl; grants = refl };
+  desks = refl;
   time = refl;
   next_page = refl;
   next_revision = refl;
@@ -63,7 +63,7 @@ pub same_seen : (before after : TreePart) → IsSame before after → seen after
 same_seen before after same =
     lists_are (seen after) (seen before) same.pages same.revisions
     (people_are (seen_people after.grants) (seen_people before.grants) same.lists.users
-    (ap (λ n. n + 1) same.lists.groups) same.lists.members same.lists.grants) refl refl refl
+    (ap (λ n. n + 1) same.lists.groups) same.lists.members same.lists.grants) refl refl same.desks
     same.time same.next_page same.next_revision
 
 -- what stands for a world stands for it with other room

@@ -71,7 +71,7 @@ module _ (pages : List Page) (are : ArePages pages) (id : ℕ) where
 
   module _ (tree : Forest Body) (is_tree : pages ≡ rows_of tree) where
     -- the walk to a page is the walk to its parent, and the page
-    walk_up : IsSome (row_with id pages) →
+    pub walk_up : IsSome (row_with id pages) →
         ids_to id tree
         ≡ ids_above (option_and_then (λ (row : Page). row.parent) (row_with id pages)) tree
         ++ id ∷ []

@@ -1,7 +1,11 @@
 -- What is held where each permission is tested.
-use Rattle.std.specs.Prelude.{Bool, ◌||◌}
+use Rattle.std.specs.Prelude.{ℕ, Bool, ◌==◌, ◌||◌, ◌&&◌, List, [], ◌∷◌}
+use Rattle.std.specs.List.{list_any}
 use Rattle.site_types.specs.declared.permission.Permission.{Permission}
 use Rattle.site_types.specs.declared.permission.Permission.TheVariants.{Add, Change, Publish, BulkDelete, Lock, Unlock}
+use Rattle.site_types.specs.declared.world_rows.Member.{Member}
+use Rattle.site_types.specs.declared.world_rows.Grant.{Grant}
+use Rattle.site_model.specs.Rights.{is_same}
 use Rattle.grants.specs.declared.right.Held.{Held}
 
 -- the permissions that pass the test
@@ -27,3 +31,12 @@ held_either one other =
       lock = one.lock || other.lock;
       unlock = one.unlock || other.unlock;
     }
+
+-- the memberships of one user rise by group
+abbrev pub group_key : Member → List ℕ
+group_key member = member.group ∷ []
+
+-- whether a grant is of the permission, to the group of one of these memberships
+abbrev pub gives_any : List Member → Permission → Grant → Bool
+gives_any members permission grant =
+    list_any (λ member. member.group == grant.group) members && is_same grant.permission permission

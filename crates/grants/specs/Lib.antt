@@ -1,6 +1,5 @@
 pub mod Lists
 pub mod Kept
-pub mod Places
 pub mod Standing
 pub mod Live
 pub mod Stopping

@@ -1,13 +1,17 @@
 -- What a plan tells of a command, and what it needs to be carried out.
-use Rattle.std.specs.Prelude.{◌≡◌, ℕ, ◌≤◌, List, [], length, map, Option, None, Result, Ok, Err}
+use Rattle.std.specs.Prelude.{◌≡◌, ℕ, false, ◌==◌, not, ◌≤◌, List, [], length, map, filter, Option, Some, None, Result, Ok, Err}
+use Rattle.std.specs.List.{list_any}
 use Rattle.std.specs.Option.{option_map}
 use Rattle.site_types.specs.Content.{ContentValue}
 use Rattle.site_types.specs.declared.command.Command.{Command}
 use Rattle.site_types.specs.declared.reply.Reply.{Reply}
 use Rattle.site_model.specs.World as worlds
+use Rattle.site_model.specs.Desks.{desk_key}
 use Rattle.site_model.specs.Step.{step_by}
+use Rattle.site_model.specs.Users.{put_in}
 use Rattle.flat_model.specs.Fits.{Fits}
 use Rattle.flat_model.specs.Flat.{lists_of}
+use Rattle.flat_model.specs.Lists.{PartLists}
 use Rattle.flat_model.specs.Made.{made}
 use Rattle.flat_model.specs.declared.change.Change.{Change}
 use Rattle.flat_model.specs.declared.change.TreeChange.{TreeChange}
@@ -23,7 +27,7 @@ use Rattle.grants.specs.Standing.{IsReady}
 -- a plan that opens and ends no desk
 abbrev pub quiet_plan : Reply → Change → Plan
 quiet_plan reply change =
-    record { reply = reply; opened = None; shut = []; change = change }
+    record { reply = reply; opened = None; shut = []; saved = None; change = change }
 
 -- how many rows' room a change of the rows takes at most
 abbrev pub rows_needed : TreeChange → ℕ
@@ -41,15 +45,48 @@ people_needed people.Group = 0
 people_needed (people.Member user group on) = 1
 people_needed (people.Grant group page permission on) = 1
 
+-- how much room for open desks a plan takes
+abbrev pub desks_needed : Option (ℕ × ℕ × ContentValue) → ℕ
+desks_needed None = 0
+desks_needed (Some desk) = 1
+
 -- There is room for what is to be changed, so that no memory is taken.
-pub record HasRoom (kept : TreePart) (change : Change) : Type 0 where
-  pub rows : rows_needed change.tree ≤ kept.rows.spare
-  pub revisions : length change.revisions ≤ kept.shelf.spare
-  pub people : people_needed change.people ≤ kept.grants.spare
+pub record HasRoom (kept : TreePart) (plan : Plan) : Type 0 where
+  pub rows : rows_needed plan.change.tree ≤ kept.rows.spare
+  pub revisions : length plan.change.revisions ≤ kept.shelf.spare
+  pub people : people_needed plan.change.people ≤ kept.grants.spare
+  pub desks : desks_needed plan.opened ≤ kept.desk_pairs.spare
 
 -- a desk as a plan has it: its page, its user and its text
 abbrev pub desk_of : worlds.Desk → ℕ × ℕ × ContentValue
 desk_of desk = (desk.page, desk.user, desk.text)
+
+-- the open desks with the one that a plan opens
+abbrev pub pairs_opened : Option (ℕ × ℕ × ContentValue) → List worlds.DeskPair → List worlds.DeskPair
+pairs_opened None pairs = pairs
+pairs_opened (Some desk) pairs = put_in desk_key (record { page = desk.0; user = desk.1 }) pairs
+
+-- the open desks without those on these pages
+abbrev pub pairs_left : List ℕ → List worlds.DeskPair → List worlds.DeskPair
+pairs_left shut pairs = filter (λ pair. not (list_any (λ id. id == pair.page) shut)) pairs
+
+-- The lists that a plan leaves: those of its change, and of the open desks the one that it opens comes
+-- and those that it ends go.
+abbrev pub left_by : Plan → PartLists → PartLists
+left_by plan lists =
+    record (made plan.change lists) {
+      desk_pairs = pairs_left plan.shut (pairs_opened plan.opened lists.desk_pairs);
+    }
+
+-- a desk can be opened where none is open on its page
+abbrev pub DeskFits : Option (ℕ × ℕ × ContentValue) → List worlds.DeskPair → Type 0
+DeskFits None pairs = Unit {0}
+DeskFits (Some desk) pairs = list_any (λ pair. pair.page == desk.0) pairs ≡ false
+
+-- A plan that lists can take: its change, and the desk that it opens.
+pub record PlanFits (lists : PartLists) (plan : Plan) : Type 0 where
+  pub change : Fits lists plan.change
+  pub opened : DeskFits plan.opened lists.desk_pairs
 
 -- the pages of desks
 abbrev pub pages_of : List worlds.DeskPair → List ℕ
@@ -57,8 +94,8 @@ pages_of pairs = map (λ pair. pair.page) pairs
 
 -- The plan of a command by this caller at this moment, which no rule refuses, where the caller has this
 -- text at the desk that the command looks at: what it answers, the desk that it opens, with its page,
--- user and text, and the desks that it ends are those of the step, and what it changes is a change that
--- the lists of the world can take, and leads to those of the world after the step.
+-- user and text, and the desks that it ends are those of the step; it saves no text; and the lists of the
+-- world can take it, and it leaves those of the world after the step.
 pub record IsPlan (part : worlds.TreePart) (desk : Option ContentValue) (now caller : ℕ)
     (command : Command) (after : worlds.TreePart) (effect : worlds.Effect) (plan : Plan) :
     Type 0 where
@@ -66,8 +103,9 @@ pub record IsPlan (part : worlds.TreePart) (desk : Option ContentValue) (now cal
   pub reply : plan.reply ≡ effect.reply
   pub opened : plan.opened ≡ option_map desk_of effect.opened
   pub shut : plan.shut ≡ pages_of effect.ended
-  pub change_fits : Fits (lists_of part) plan.change
-  pub leads : made plan.change (lists_of part) ≡ lists_of after
+  pub no_text : plan.saved ≡ None
+  pub fits : PlanFits (lists_of part) plan
+  pub leads : left_by plan (lists_of part) ≡ lists_of after
 
 -- A plan is right: what is in memory stands for the world that it was made of, it is the plan of
 -- the command, and there is room.
@@ -76,7 +114,7 @@ pub record CanCommit (kept : TreePart) (part : worlds.TreePart) (desk : Option C
     (plan : Plan) : Type 0 where
   pub ready : IsReady kept part
   pub right : IsPlan part desk now caller command after effect plan
-  pub room : HasRoom kept plan.change
+  pub room : HasRoom kept plan
 
 -- a plan can be committed
 pub record HasPlan (kept : TreePart) (part : worlds.TreePart) (desk : Option ContentValue)

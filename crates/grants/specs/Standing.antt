@@ -17,7 +17,7 @@ seen_people kept =
       grants = kept.grants;
     }
 
--- What is in memory, as lists: no task, no workflow and no open desk is kept yet.
+-- What is in memory, as lists: no task and no workflow is kept yet.
 abbrev pub seen : TreePart → PartLists
 seen kept =
     record {
@@ -26,7 +26,7 @@ seen kept =
       people = seen_people kept.grants;
       tasks = [];
       workflows = [];
-      desk_pairs = [];
+      desk_pairs = kept.desk_pairs.pairs;
       time = kept.time;
       next_page = kept.next_page;
       next_revision = kept.next_revision;
@@ -37,19 +37,21 @@ pub record IsSame (before after : TreePart) : Type 0 where
   pub pages : after.rows.pages ≡ before.rows.pages
   pub revisions : after.shelf.revisions ≡ before.shelf.revisions
   pub lists : SameLists before.grants after.grants
+  pub desks : after.desk_pairs.pairs ≡ before.desk_pairs.pairs
   pub time : after.time ≡ before.time
   pub next_page : after.next_page ≡ before.next_page
   pub next_revision : after.next_revision ≡ before.next_revision
 
 -- What is in memory is what the world has: the rows of its tree, the revisions, the users, groups,
--- memberships and grants, the time and the next ids; and the world has nothing that is not kept yet.
+-- memberships and grants, the open desks, the time and the next ids; and the world has nothing that is
+-- not kept yet.
 pub record StandsFor (kept : TreePart) (part : worlds.TreePart) : Type 0 where
   pub pages : kept.rows.pages ≡ rows_of part.tree
   pub revisions : kept.shelf.revisions ≡ part.revisions
   pub lists : ListsStandFor kept.grants part
   pub no_tasks : part.tasks ≡ []
   pub no_workflows : part.workflows ≡ []
-  pub no_desks : part.desk_pairs ≡ []
+  pub desks : kept.desk_pairs.pairs ≡ part.desk_pairs
   pub time : kept.time ≡ part.time
   pub next_page : kept.next_page ≡ part.next_page
   pub next_revision : kept.next_revision ≡ part.next_revision

@@ -38,6 +38,7 @@ impl Grants {
     pub fn reserve(&mut self, more: usize) -> Result<(), NoMemory>
         ensures same { SameLists self.old self.new }
         ensures ok { OnOk result (more ≤ self.new.spare) }
+        ensures spare { self.old.spare ≤ self.new.spare }
     {
         self.users.reserve(more)?;
         self.numbers.reserve(more)?;

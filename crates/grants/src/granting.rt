@@ -8,7 +8,7 @@ ghost use Rattle.site_model.specs.Rights.{permission_number};
 ghost use Rattle.site_model.specs.Users.{grant_key, is_grant};
 ghost use Rattle.site_model.specs.Sound.{KeysRise};
 ghost use Rattle.flat_model.specs.People.{grants_with};
-ghost use Rattle.grants.specs.Places.{place_of, search_told, passes};
+ghost use Rattle.desk_pairs.specs.Places.{place_of, search_told, passes};
 
 use crate::Grants;
 use crate::places::{cut, put};

@@ -6,7 +6,7 @@ ghost use Rattle.page_tree.specs.Rows.{comes_before};
 ghost use Rattle.site_model.specs.Users.{member_key, is_membership};
 ghost use Rattle.site_model.specs.Sound.{KeysRise};
 ghost use Rattle.flat_model.specs.People.{members_with};
-ghost use Rattle.grants.specs.Places.{place_of, search_told, passes};
+ghost use Rattle.desk_pairs.specs.Places.{place_of, search_told, passes};
 
 use crate::Grants;
 use crate::places::put;

@@ -1,11 +1,12 @@
 //! The tree part of the site in memory.
 use crate::Grants;
+use desk_pairs::DeskPairs;
 use page_store::Rows;
 use revision_shelf::Shelf;
 use site_types::Moment;
 
 /// All of the site in memory but the texts of open desks: the rows of its pages, their revisions, who
-/// may do what, the time, and the next ids.
+/// may do what, which desks are open, the time, and the next ids.
 #[derive(Debug, Drop)]
 pub struct TreePart {
     /// The rows of the pages.
@@ -14,6 +15,8 @@ pub struct TreePart {
     pub shelf: Shelf,
     /// Users, groups, memberships and grants.
     pub grants: Grants,
+    /// The open desks without their texts.
+    pub desk_pairs: DeskPairs,
     /// The greatest moment of a command that was accepted.
     pub time: Moment,
     /// The number of the next page, from 2 to 1,000,001.

@@ -15,6 +15,8 @@ pub struct Plan {
     pub opened: Option<(PageId, UserId, Content)>,
     /// The pages whose desks end, rising.
     pub shut: Ids,
+    /// The text that is saved: the page and the user of its desk, and the text.
+    pub saved: Option<(PageId, UserId, Content)>,
     /// What it changes.
     pub change: Change,
 }
@@ -28,6 +30,7 @@ impl Plan {
             reply,
             opened: None,
             shut: Ids::from_vec(Vec::new(alloc)),
+            saved: None,
             change,
         }
     }

@@ -6,17 +6,17 @@ ghost use Rattle.page_tree.specs.Rows.{rows_of, row_with};
 ghost use Rattle.page_tree.specs.Walk.{walk};
 ghost use Rattle.site_types.specs.declared.body.Body.{Body as PageBody};
 ghost use Rattle.site_model.specs.World.{TreePart};
-ghost use Rattle.site_model.specs.Rights.{held, gives, is_same};
+ghost use Rattle.site_model.specs.Rights.{held, gives, is_same, groups_of};
 ghost use Rattle.site_model.specs.Users.{grant_key};
 ghost use Rattle.site_model.specs.Sound.{KeysRise};
-ghost use Rattle.grants.specs.Granted.{held_where, held_either};
+ghost use Rattle.grants.specs.Granted.{held_where, held_either, group_key, gives_any};
 ghost use Rattle.grants.specs.Lists.{ListsStandFor};
 ghost use Rattle.grants.specs.Needs.{is_held, seen_held};
 
 use crate::Grants;
-use crate::spans::{grants_to, members_of};
+use crate::spans::{grants_at, has_group, members_of};
 use page_store::Rows;
-use site_types::{Grant, GroupId, Member, PageId, Permission, UserId};
+use site_types::{Grant, Member, PageId, Permission, UserId};
 
 /// The permissions that a user holds at a page.
 #[derive(Clone, Copy, Debug, PartialEq, Eq)]
@@ -59,8 +59,9 @@ impl Grants {
     /// What a user holds at a page: all for a superuser, and else what was granted, at that page or
     /// at a page above it, to a group of the user (Wagtail, page permissions).
     ///
-    /// It costs, for each page from this one up to the root and for each group of the user, a search
-    /// of as many steps as the number of grants has binary digits.
+    /// For each page from this one up to the root it searches the page's grants, in as many steps as the
+    /// number of grants has binary digits, and looks for the group of each among the user's groups, in as
+    /// many steps as the number of these has.
     pub fn held(&self, rows: &Rows, user: UserId, page: PageId) -> Held
         requires { IsSome (row_with page rows.now.pages) }
         ensures { (part : TreePart) → rows.now.pages ≡ rows_of part.tree
@@ -72,12 +73,22 @@ impl Grants {
         let own = members_of(self.members.as_slice(), user);
         granted_up(rows, self.grants.as_slice(), own, page)
     }
+
+    /// What is granted to a user's groups at a page itself.
+    pub fn granted_here(&self, user: UserId, page: PageId) -> Held
+        ensures { result ≡ held_where (λ permission. list_any
+            (gives (groups_of self.now.members user) permission page) self.now.grants) }
+    {
+        let own = members_of(self.members.as_slice(), user);
+        granted_at(self.grants.as_slice(), own, page)
+    }
 }
 
 /// What is granted to the groups of these memberships at a page or at a page above it.
 fn granted_up(rows: &Rows, grants: &[Grant], members: &[Member], page: PageId) -> Held
     requires there { IsSome (row_with page rows.now.pages) }
     requires rise { KeysRise grant_key grants.now }
+    requires groups { KeysRise group_key members.now }
     ensures { (tree : Forest PageBody) → rows.now.pages ≡ rows_of tree → result
         ≡ held_where (λ permission. list_any (λ visit. list_any
         (gives (map (λ member. member.group) members.now) permission visit.id) grants.now)
@@ -93,35 +104,37 @@ fn granted_up(rows: &Rows, grants: &[Grant], members: &[Member], page: PageId) -
 
 /// What is granted to the groups of these memberships at a page itself.
 fn granted_at(grants: &[Grant], members: &[Member], page: PageId) -> Held
-    requires { KeysRise grant_key grants.now }
+    requires rise { KeysRise grant_key grants.now }
+    requires groups { KeysRise group_key members.now }
     ensures { result ≡ held_where (λ permission. list_any
         (gives (map (λ member. member.group) members.now) permission page) grants.now) }
 {
-    let mut held = NOTHING;
-    for member in members {
-        held = either(held, granted_to(grants, page, member.group));
-    }
-    held
+    granted_by(grants_at(grants, page), members)
 }
 
-/// What is granted to a group at a page itself: a walk over six grants at most.
-fn granted_to(grants: &[Grant], page: PageId, group: GroupId) -> Held
-    requires { KeysRise grant_key grants.now }
-    ensures { result ≡ held_where (λ permission. list_any (gives (group ∷ []) permission page) grants.now) }
-{
-    permissions_of(grants_to(grants, page, group))
-}
-
-/// The permissions that these grants give.
-fn permissions_of(grants: &[Grant]) -> Held
-    ensures { result ≡ held_where (λ permission. list_any
-        (λ grant. is_same grant.permission permission) grants.now) }
+/// What these grants give to the groups of these memberships: a search for each grant.
+fn granted_by(grants: &[Grant], members: &[Member]) -> Held
+    requires { KeysRise group_key members.now }
+    ensures { result
+        ≡ held_where (λ permission. list_any (gives_any members.now permission) grants.now) }
 {
     let mut held = NOTHING;
     for grant in grants {
-        held = either(held, alone(grant.permission));
+        held = either(held, given_by(grant, members));
     }
     held
+}
+
+/// What a grant gives to the groups of these memberships: its permission or nothing.
+fn given_by(grant: &Grant, members: &[Member]) -> Held
+    requires { KeysRise group_key members.now }
+    ensures { result ≡ held_where (λ permission. gives_any members.now permission grant.now) }
+{
+    if has_group(members, grant.group) {
+        alone(grant.permission)
+    } else {
+        NOTHING
+    }
 }
 
 /// One permission alone.

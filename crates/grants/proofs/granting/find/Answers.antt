@@ -1,9 +1,9 @@
 -- What stands at the place tells whether the grant is there.
 use Rattle.std.proofs.Common.{◌≡◌, ◌∙◌, sym}
-use Rattle.grants.specs.Places.{place_of}
+use Rattle.desk_pairs.specs.Places.{place_of}
 use Rattle.site_model.specs.Users.{grant_key, is_grant}
 use Rattle.grants.proofs.GrantLemmas.{tests_grant}
-use Rattle.grants.proofs.SearchLemmas.{told_at_place}
+use Rattle.desk_pairs.proofs.SearchLemmas.{told_at_place}
 use Rattle.grants.proofs.granting.find.Goals as goal
 
 pub returns-then-is_at : goal.returns-then-is_at

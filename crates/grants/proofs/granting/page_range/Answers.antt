@@ -1,7 +1,7 @@
 -- The least key of a page comes before that of the next.
 use Rattle.std.proofs.Common.{◌+◌}
 use Rattle.site_model.specs.Users.{grant_key}
-use Rattle.grants.proofs.PlaceLemmas.{place_within}
+use Rattle.desk_pairs.proofs.PlaceLemmas.{place_within}
 use Rattle.grants.proofs.CutLemmas.{page_key, lower_page, place_ordered}
 use Rattle.grants.proofs.granting.page_range.Goals as goal
 

@@ -2,7 +2,7 @@
 use Rattle.std.proofs.Common.{◌∙◌, sym, [], ◌∷◌}
 use Rattle.site_model.specs.Users.{member_key, is_membership}
 use Rattle.grants.proofs.MemberLemmas.{tests_member}
-use Rattle.grants.proofs.SearchLemmas.{told_at_place}
+use Rattle.desk_pairs.proofs.SearchLemmas.{told_at_place}
 use Rattle.grants.proofs.joining.find.Goals as goal
 
 pub returns-then-is_at : goal.returns-then-is_at

@@ -4,7 +4,7 @@ use Rattle.std.proofs.lemmas.List.Sorted.{IsPartitionPoint-from_clause}
 use Rattle.page_tree.specs.Rows.{comes_before}
 use Rattle.site_types.specs.declared.world_rows.Member.{Member}
 use Rattle.site_model.specs.Users.{member_key}
-use Rattle.grants.proofs.PlaceLemmas.{parted, place_found}
+use Rattle.desk_pairs.proofs.PlaceLemmas.{parted, place_found}
 use Rattle.grants.proofs.joining.place_at.Goals as goal
 
 pub returns : goal.returns

@@ -1,5 +1,5 @@
 -- The row of the page says what stops its caller.
-use Rattle.std.proofs.Common.{sym, ◌∙◌}
+use Rattle.std.proofs.Common.{◌∙◌}
 use Rattle.command_rows.specs.Rows.{seen_row}
 use Rattle.grants.proofs.LiveLemmas.{body_found, body_missing}
 use Rattle.grants.proofs.NeedLemmas.{not_moderated}

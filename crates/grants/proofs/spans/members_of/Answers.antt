@@ -5,11 +5,13 @@ use Rattle.std.proofs.lemmas.List.Sorted.{IsPartitionPoint-from_clause}
 use Rattle.site_types.specs.declared.world_rows.Member.{Member}
 use Rattle.site_model.specs.Sound.{KeysRise}
 use Rattle.site_model.specs.Users.{member_key}
-use Rattle.grants.proofs.SpanLemmas.{parted, rest_rises, span_is, lower_first, lower_or_same, between_is}
+use Rattle.grants.proofs.SpanLemmas.{parted, rest_rises, span_is, lower_first, lower_or_same, between_is, groups_rise}
+use Rattle.grants.specs.Granted.{group_key}
 use Rattle.grants.proofs.spans.members_of.Goals as goal
 
-pub returns : goal.returns
-returns c =
+-- the memberships are the user's
+value : goal.returns-clause-value
+value c =
     let all = c.args.members.now in
     let start = c.partition_point-start.result in
     let first = IsPartitionPoint-from_clause (λ (m : Member). nat_lt m.user c.args.user) all start
@@ -30,3 +32,10 @@ returns c =
     span_is (λ (m : Member). nat_lt m.user c.args.user) (λ (m : Member). nat_le m.user c.args.user)
     (λ (m : Member). nat_eq m.user c.args.user) all start c.partition_point-end.result
     (λ m. between_is c.args.user m.user) first second
+
+pub returns-clause-value : goal.returns-clause-value
+returns-clause-value c = value c
+
+pub returns-clause-groups : goal.returns-clause-groups
+returns-clause-groups c =
+    subst (KeysRise group_key) (sym (value c)) (groups_rise c.args.user c.args.members.now c.requires)

@@ -12,7 +12,7 @@ returns c part same lists =
     c.as_slice-2.result.now
     (ap (λ (users : List UserRow). is_superuser users c.args.user) (sym lists.users)
     ∙ (sym c.is_superuser.ensures ∙ c.if-is_superuser.false))
-    (c.members_of-own.ensures
+    (c.members_of-own.ensures.value
     ∙ ap (filter (λ (m : Member). nat_eq m.user c.args.user))
     (c.as_slice.ensures.value ∙ (ap (λ k. k.members) c.self.view_is ∙ lists.members)))
     (c.as_slice-2.ensures.value ∙ (ap (λ k. k.grants) c.self.view_is ∙ lists.grants))

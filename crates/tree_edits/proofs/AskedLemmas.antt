@@ -1,5 +1,5 @@
 -- What is told of a command that its first rules do not refuse.
-use Rattle.std.proofs.Common.{◌≡◌, ℕ, true, Option, Some, None, Err, sym, ap, subst, ◌∙◌}
+use Rattle.std.proofs.Common.{◌≡◌, ℕ, true, List, Option, Err, sym, ap, subst, ◌∙◌}
 use Rattle.site_types.specs.Content.{ContentValue}
 use Rattle.site_types.specs.declared.command.Command.{Command}
 use Rattle.site_types.specs.declared.refusal.Refusal.{Refusal}
@@ -35,4 +35,15 @@ pub planned_is : (command : Command) (room : TreePart) (part : worlds.TreePart)
     HasPlan room part desk now caller command plan
 planned_is command room part desk now caller reply plan change meant is change_is has =
     subst (λ (p : Plan). HasPlan room part desk now caller command p)
+    (sym (is ∙ ap (quiet_plan reply) change_is)) has
+
+-- so is one that ends the desks on these pages
+pub ending_is : (command : Command) (room : TreePart) (part : worlds.TreePart)
+    (desk : Option ContentValue) (now caller : ℕ) (reply : Reply) (shut : List ℕ) (plan : Plan)
+    (change meant : Change) → plan ≡ quiet_plan reply change → change ≡ meant →
+    HasPlan room part desk now caller command
+    (record (quiet_plan reply meant) { shut = shut }) →
+    HasPlan room part desk now caller command (record plan { shut = shut })
+ending_is command room part desk now caller reply shut plan change meant is change_is has =
+    subst (λ (p : Plan). HasPlan room part desk now caller command (record p { shut = shut }))
     (sym (is ∙ ap (quiet_plan reply) change_is)) has

@@ -1,19 +1,20 @@
 -- What the first rules of the commands on the tree name, which rules of their own they have, and what
 -- they do.
-use Rattle.std.proofs.Common.{◌≡◌, ℕ, Bool, true, false, cond, ◌||◌, List, [], ◌∷◌, Option, Some, None, nat_eq, refl, ap, ◌∙◌}
+use Rattle.std.proofs.Common.{◌≡◌, ℕ, Bool, true, false, cond, List, [], ◌∷◌, Option, None, nat_eq, refl, ap}
 use Rattle.std.specs.List.{list_any}
-use Rattle.page_tree.specs.Tree.{Forest, has_page}
+use Rattle.page_tree.specs.Tree.{has_page}
 use Rattle.site_types.specs.Content.{ContentValue}
 use Rattle.site_types.specs.declared.command.Command.TheVariants.{Create, Move, Delete, SetSlug}
 use Rattle.site_types.specs.declared.position.Position.{Position}
-use Rattle.site_types.specs.declared.refusal.Refusal.{Refusal}
 use Rattle.site_types.specs.declared.refusal.Refusal.TheVariants.{IsRoot}
 use Rattle.tree_model.specs.Places.{is_beside}
 use Rattle.tree_model.proofs.CountLemmas.{apart_by_test}
 use Rattle.site_model.specs.World.{TreePart}
 use Rattle.site_model.specs.Create.{create_rules, create}
 use Rattle.site_model.specs.Delete.{delete}
+use Rattle.site_model.specs.Desks.{desk_page}
 use Rattle.site_model.specs.Front.{StopsOthers, StopsNobody, naming, on_page, on_move, row_of, front_rules}
+use Rattle.site_model.specs.Losing.{NoDesk, suspects_of, shuts}
 use Rattle.site_model.specs.Moves.{move_rules, move}
 use Rattle.site_model.specs.Needs.{needs_of}
 use Rattle.site_model.specs.Rules.{refused_if, are_root}
@@ -133,3 +134,35 @@ module _ (part : TreePart) (desk : Option ContentValue) (now caller : ℕ) where
       effect part desk now caller (SetSlug page slug) ≡ set_slug part now page slug
   unfolding effect
   slug_done page slug = refl
+
+-- no command on the tree looks at the caller's desk
+pub create_desk : (parent : ℕ) (slug : List ℕ) (content : ContentValue) →
+    desk_page (Create parent slug content) ≡ None
+unfolding desk_page
+create_desk parent slug content = refl
+
+pub move_desk : (page target : ℕ) (position : Position) →
+    desk_page (Move page target position) ≡ None
+unfolding desk_page
+move_desk page target position = refl
+
+pub delete_desk : (page : ℕ) → desk_page (Delete page) ≡ None
+unfolding desk_page
+delete_desk page = refl
+
+pub slug_desk : (page : ℕ) (slug : List ℕ) → desk_page (SetSlug page slug) ≡ None
+unfolding desk_page
+slug_desk page slug = refl
+
+-- a creation can end no desk
+pub create_quiet : (parent : ℕ) (slug : List ℕ) (content : ContentValue) →
+    (suspects_of (Create parent slug content) ≡ NoDesk)
+    × (shuts (Create parent slug content) ≡ false)
+unfolding suspects_of shuts
+create_quiet parent slug content = (refl, refl)
+
+-- nor can another slug
+pub slug_quiet : (page : ℕ) (slug : List ℕ) →
+    (suspects_of (SetSlug page slug) ≡ NoDesk) × (shuts (SetSlug page slug) ≡ false)
+unfolding suspects_of shuts
+slug_quiet page slug = (refl, refl)

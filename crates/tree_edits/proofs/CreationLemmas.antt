@@ -21,20 +21,19 @@ use Rattle.site_model.proofs.ReachedSound.{step_by_keeps_reached}
 use Rattle.flat_model.specs.declared.change.Change.{Change}
 use Rattle.flat_model.specs.Fits.{Fits}
 use Rattle.flat_model.specs.Flat.{people_of, lists_of}
-use Rattle.flat_model.specs.Made.{made as made_lists}
 use Rattle.flat_model.proofs.ListLemmas.{lists_are, none_out, quiet_people}
-use Rattle.grants.specs.Plans.{HasPlan}
+use Rattle.grants.specs.Plans.{HasPlan, quiet_plan, left_by}
 use Rattle.grants.specs.Standing.{IsSame}
 use Rattle.grants.specs.declared.part.TreePart.{TreePart}
 use Rattle.grants.specs.declared.plan.Plan.{Plan}
 use Rattle.grants.proofs.StandingLemmas.{same_ready}
-use Rattle.grants.proofs.StepLemmas.{plain, without_desks, plain_step}
 use Rattle.tree_edits.specs.declared.creation.NewPage.{NewPage}
 use Rattle.tree_edits.specs.Making.{page_rules, IsNewPage, fresh_row, creation_change, creation_plan}
 use Rattle.tree_edits.specs.Plans.{IsAsked, IsSoundTree}
-use Rattle.tree_edits.proofs.CommandLemmas.{create_names, create_own, create_done}
+use Rattle.tree_edits.proofs.CommandLemmas.{create_names, create_own, create_done, create_desk, create_quiet}
 use Rattle.tree_edits.proofs.CreationPlan.{next_free}
 use Rattle.tree_edits.proofs.CreationRows.{own_found, row_fits, rows_with}
+use Rattle.tree_edits.proofs.EndingSteps.{ending, left_open, no_desk_fits, quiet_step}
 use Rattle.tree_edits.proofs.ReplyLemmas.{reply_is}
 
 module _ (kept : TreePart) (part : worlds.TreePart) (desk : Option ContentValue)
@@ -51,13 +50,19 @@ module _ (kept : TreePart) (part : worlds.TreePart) (desk : Option ContentValue)
   abbrev reply : Reply
   reply = page_reply part.next_page after.tree
 
-  -- the step leads there
-  step_is : step_by part desk now caller (Create parent slug content)
-      ≡ Ok (without_desks after, plain reply)
+  -- with all its open desks
+  abbrev left : worlds.TreePart
+  left = left_open after [] part.desk_pairs
+
+  -- the step leads there, and ends no desk
+  step_is : step_by part desk now caller (Create parent slug content) ≡ Ok (left, ending reply [])
   step_is =
-      plain_step part desk now caller (Create parent slug content) after reply asked.front refl
+      let quiet = create_quiet parent slug content in
+      quiet_step part desk now caller (Create parent slug content) after reply
+      asked.ready.reached.sound asked.front refl
       (create_own part desk now caller parent slug content ∙ clear)
-      (create_done part desk now caller parent slug content) asked.ready.reached.none_yet.no_desk
+      (create_desk parent slug content)
+      (create_done part desk now caller parent slug content) refl quiet.0 quiet.1
 
   -- the parent is there
   there : has_page parent part.tree ≡ true
@@ -69,8 +74,10 @@ module _ (kept : TreePart) (part : worlds.TreePart) (desk : Option ContentValue)
 
   sound_after : IsSoundTree after
   sound_after =
-      (step_by_keeps_reached part (without_desks after) (plain reply) desk now caller
-      (Create parent slug content) asked.ready.reached moment asked.fits step_is).0.sound.pages
+      (step_by_keeps_reached part left (ending reply []) desk now caller
+      (Create parent slug content) asked.ready.reached moment asked.fits
+      (no_desk_fits part desk caller (Create parent slug content)
+      (create_desk parent slug content)) step_is).sound.pages
 
   -- the tree has rising steps and distinct ids
   is_tree : IsTree part.tree
@@ -132,16 +139,16 @@ module _ (kept : TreePart) (part : worlds.TreePart) (desk : Option ContentValue)
   }
 
   -- it leads to those of the world after it
-  change_leads : made_lists change (lists_of part) ≡ lists_of (without_desks after)
-  change_leads =
-      lists_are (made_lists change (lists_of part)) (lists_of (without_desks after))
+  change_leads : (told : Reply) → left_by (quiet_plan told change) (lists_of part) ≡ lists_of left
+  change_leads told =
+      lists_are (left_by (quiet_plan told change) (lists_of part)) (lists_of left)
       (rows_with part.tree are_rows is_tree sound.whole parent part.next_page slug made.place.path
       made.place.url (fresh_body caller part.next_revision) there (next_free part sound)
       new.place.free new.place.path new.place.url sound_after.rising sound_after.steps
       sound_after.depth)
       (ap (λ list. list ++ change.revisions)
       (none_out (λ (revision : Revision). revision.page) part.revisions))
-      (quiet_people (people_of part)) refl refl asked.ready.reached.none_yet.no_desk refl refl refl
+      (quiet_people (people_of part)) refl refl refl refl refl refl
 
   -- its plan can be committed where room was made
   plan_is : (room : TreePart) (time : ℕ) → IsSame kept room → 1 ≤ room.rows.spare →
@@ -149,8 +156,8 @@ module _ (kept : TreePart) (part : worlds.TreePart) (desk : Option ContentValue)
       HasPlan room part desk now caller (Create parent slug content)
       (creation_plan made slug content caller time)
   plan_is room time same rows shelf time_is = record {
-    after = without_desks after;
-    effect = plain reply;
+    after = left;
+    effect = ending reply [];
     can = record {
       ready = same_ready kept room part same asked.ready;
       right = record {
@@ -158,11 +165,21 @@ module _ (kept : TreePart) (part : worlds.TreePart) (desk : Option ContentValue)
         reply = reply_told;
         opened = refl;
         shut = refl;
-        change_fits = subst (Fits (lists_of part)) (sym (change_is time time_is)) change_fits;
-        leads = ap (λ (c : Change). made_lists c (lists_of part)) (change_is time time_is)
-            ∙ change_leads;
+        no_text = refl;
+        fits = record {
+          change = subst (Fits (lists_of part)) (sym (change_is time time_is)) change_fits;
+          opened = tt;
+        };
+        leads = ap (λ (c : Change). left_by (quiet_plan reply c) (lists_of part))
+            (change_is time time_is)
+            ∙ change_leads reply;
       };
-      room = record { rows = rows; revisions = shelf; people = omega arith };
+      room = record {
+        rows = rows;
+        revisions = shelf;
+        people = omega arith;
+        desks = omega arith;
+      };
     };
   }
 

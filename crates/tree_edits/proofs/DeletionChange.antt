@@ -12,6 +12,7 @@ use Rattle.page_tree.proofs.RowLemmas.{has_page-rows}
 use Rattle.site_ids.specs.Ids.{IsPageId}
 use Rattle.site_ids.specs.declared.ids.TheConstants.{LAST_PAGE_ID}
 use Rattle.site_types.specs.declared.body.Body.{Body}
+use Rattle.site_types.specs.declared.reply.Reply.{Reply}
 use Rattle.site_types.specs.declared.revision.Revision.{Revision}
 use Rattle.site_types.specs.declared.world_rows.Grant.{Grant}
 use Rattle.page_store.specs.Changes.{changed, without_kid, without_range}
@@ -27,12 +28,14 @@ use Rattle.site_model.specs.Sound.{IsGiven}
 use Rattle.tree_edits.specs.Plans.{IsSoundTree}
 use Rattle.flat_model.specs.Fits.{Fits}
 use Rattle.flat_model.specs.Flat.{people_of, lists_of}
-use Rattle.flat_model.specs.Made.{of_others, people_left, made}
+use Rattle.flat_model.specs.Made.{of_others, people_left}
 use Rattle.flat_model.specs.Single.{tree_change}
 use Rattle.flat_model.specs.declared.change.Change.{Change}
 use Rattle.flat_model.specs.declared.change.TreeChange.TheVariants as trees
 use Rattle.flat_model.proofs.ListLemmas.{people_are, lists_are}
-use Rattle.grants.proofs.StepLemmas.{without_desks}
+use Rattle.grants.specs.Plans.{pages_of, pairs_left, quiet_plan, left_by}
+use Rattle.grants.specs.declared.plan.Plan.{Plan}
+use Rattle.tree_edits.proofs.EndingSteps.{left_open}
 use Rattle.tree_edits.proofs.MoveChange.{some_row}
 
 -- without a parent no count changes
@@ -91,6 +94,13 @@ abbrev pub deletion_change : ℕ → List ℕ → ℕ → ℕ → ℕ → Change
 deletion_change page gone time next_page next_revision =
     record (tree_change (trees.Delete page) time next_page next_revision) { gone = gone }
 
+-- the plan of a deletion that ends the desks on these pages
+abbrev pub deletion_plan : Reply → ℕ → List ℕ → List ℕ → ℕ → ℕ → ℕ → Plan
+deletion_plan reply page gone shut time next_page next_revision =
+    record (quiet_plan reply (deletion_change page gone time next_page next_revision)) {
+      shut = shut;
+    }
+
 module _ (part : worlds.TreePart) (now page : ℕ) (sound : IsSoundTree part)
     (there : has_page page part.tree ≡ true) where
   -- the page's row
@@ -125,26 +135,27 @@ deletion_fits part page gone time next_page next_revision sound there below gone
   people = tt;
 }
 
--- it leads to those of the world without the page
-pub deletion_leads : (part : worlds.TreePart) (now page : ℕ) (gone : List ℕ)
-    (time next_page next_revision : ℕ) → IsSoundTree part → has_page page part.tree ≡ true →
-    gone ≡ ids_of (node_of page part.tree) → part.desk_pairs ≡ [] →
-    time ≡ worlds.time_at part now → next_page ≡ part.next_page →
+-- it leads to those of the world without the page, where it ends these desks
+pub deletion_leads : (part : worlds.TreePart) (now page : ℕ) (ended : List worlds.DeskPair)
+    (reply : Reply) (gone shut : List ℕ) (time next_page next_revision : ℕ) → IsSoundTree part →
+    has_page page part.tree ≡ true → gone ≡ ids_of (node_of page part.tree) →
+    shut ≡ pages_of ended → time ≡ worlds.time_at part now → next_page ≡ part.next_page →
     next_revision ≡ part.next_revision →
-    made (deletion_change page gone time next_page next_revision) (lists_of part)
-    ≡ lists_of (without_desks (without_page part now page))
-deletion_leads part now page gone time next_page next_revision sound there gone_is no_desks time_is
-    page_is revision_is =
+    left_by (deletion_plan reply page gone shut time next_page next_revision) (lists_of part)
+    ≡ lists_of (left_open (without_page part now page) ended part.desk_pairs)
+deletion_leads part now page ended reply gone shut time next_page next_revision sound there gone_is
+    shut_is time_is page_is revision_is =
     let node = node_of page part.tree in
     let of_revision : Revision → ℕ = λ revision. revision.page in
     let of_grant : Grant → ℕ = λ grant. grant.page in
     let after = without_page part now page in
-    lists_are (made (deletion_change page gone time next_page next_revision) (lists_of part))
-    (lists_of (without_desks after)) (rows_left part now page sound there)
+    lists_are
+    (left_by (deletion_plan reply page gone shut time next_page next_revision) (lists_of part))
+    (lists_of (left_open after ended part.desk_pairs)) (rows_left part now page sound there)
     (append-nil (of_others of_revision gone part.revisions)
     ∙ (ap (λ ids. of_others of_revision ids part.revisions) gone_is
     ∙ left_is of_revision node part.revisions))
     (people_are (people_left gone (people_of part)) (people_of after) refl refl refl
     (ap (λ ids. of_others of_grant ids part.grants) gone_is
     ∙ left_is of_grant node part.grants))
-    refl refl no_desks time_is page_is revision_is
+    refl refl (ap (λ ids. pairs_left ids part.desk_pairs) shut_is) time_is page_is revision_is

@@ -1,9 +1,9 @@
 -- The plan of a deletion that no rule refuses.
-use Rattle.std.proofs.Common.{◌≡◌, ◌<◌, ◌≤◌, ◌+◌, ℕ, Bool, true, false, ◌||◌, List, [], ◌∷◌, length, max, Option, None, nat_eq, refl, sym, ap, ◌∙◌, arith}
+use Rattle.std.proofs.Common.{◌≡◌, ◌<◌, ◌≤◌, ◌+◌, ℕ, Bool, true, false, ◌||◌, List, [], ◌∷◌, length, filter, max, Option, nat_eq, refl, ap, ◌∙◌, arith}
 use Rattle.std.specs.List.{AllByRecursion, list_any}
 use Rattle.std.proofs.lemmas.Bool.Decides.{nat_tests}
 use Rattle.std.proofs.lemmas.Map.Steps.{length-le_from_distinct_below}
-use Rattle.page_tree.specs.Tree.{Forest, bare, grown, has_page, node_of, ids_of}
+use Rattle.page_tree.specs.Tree.{Forest, bare, grown, node_of, ids_of}
 use Rattle.site_ids.specs.declared.ids.TheConstants.{LAST_PAGE_ID}
 use Rattle.site_types.specs.Content.{ContentValue}
 use Rattle.site_types.specs.declared.body.Body.{Body}
@@ -15,13 +15,16 @@ use Rattle.tree_model.proofs.PageLemmas.{AllPages-node_of}
 use Rattle.tree_model.proofs.SiblingLemmas.{all_append}
 use Rattle.site_model.specs.World.{TreePart}
 use Rattle.site_model.specs.Delete.{without_page, count_gone}
+use Rattle.site_model.specs.Losing.{DesksIn, is_suspect}
+use Rattle.site_model.specs.LosingLaws.{desks_within}
 use Rattle.site_model.specs.Sound.{IsGiven}
-use Rattle.grants.specs.Plans.{HasPlan, quiet_plan}
+use Rattle.site_model.proofs.LosingFacts.{deletion_ends_all}
+use Rattle.grants.specs.Plans.{HasPlan, pages_of}
 use Rattle.grants.specs.declared.part.TreePart.{TreePart as KeptPart}
-use Rattle.grants.proofs.StepLemmas.{plain, without_desks, plain_step}
 use Rattle.tree_edits.specs.Plans.{IsAsked, IsSoundTree}
-use Rattle.tree_edits.proofs.DeletionChange.{deletion_change, deletion_fits, deletion_leads}
-use Rattle.tree_edits.proofs.CommandLemmas.{delete_names, delete_own, delete_done}
+use Rattle.tree_edits.proofs.DeletionChange.{deletion_plan, deletion_fits, deletion_leads}
+use Rattle.tree_edits.proofs.CommandLemmas.{delete_names, delete_own, delete_done, delete_desk}
+use Rattle.tree_edits.proofs.EndingSteps.{ending, left_open, ends_step}
 
 -- each id of some pages is below what each page's id is below
 ids_below : (n : ℕ) (f : Forest Body) → AllPages (λ id slug body. IsGiven n id) f →
@@ -63,37 +66,50 @@ count_fits part page sound =
     let next = sound.next_page.1 in
     omega (arith, fits, next)
 
--- the plan of a deletion can be committed: no desk ends, as none is open
+-- the plan of a deletion can be committed: the desks on the page and below it end
 pub deletion_planned : (kept : KeptPart) (part : TreePart) (desk : Option ContentValue)
-    (now caller page removed : ℕ) (gone : List ℕ) (time : ℕ) →
+    (now caller page removed : ℕ) (gone shut : List ℕ) (time : ℕ) →
     IsAsked kept part caller (Delete page) → gone ≡ ids_of (node_of page part.tree) →
+    shut ≡ pages_of (filter (is_suspect part (DesksIn page)) part.desk_pairs) →
     removed ≡ length gone → time ≡ max kept.time now →
-    HasPlan kept part desk now caller (Delete page) (quiet_plan (Removed removed)
-    (deletion_change page gone time kept.next_page kept.next_revision))
-deletion_planned kept part desk now caller page removed gone time asked gone_is removed_is
-    time_is =
+    HasPlan kept part desk now caller (Delete page)
+    (deletion_plan (Removed removed) page gone shut time kept.next_page kept.next_revision)
+deletion_planned kept part desk now caller page removed gone shut time asked gone_is shut_is
+    removed_is time_is =
     let named = delete_names part caller page asked.front in
     let after = without_page part now page in
     let reply = Removed (count_gone part page) in
+    let ended = desks_within part page in
+    let sound = asked.ready.reached.sound in
     record {
-      after = without_desks after;
-      effect = plain reply;
+      after = left_open after ended part.desk_pairs;
+      effect = ending reply ended;
       can = record {
         ready = asked.ready;
         right = record {
-          step = plain_step part desk now caller (Delete page) after reply asked.front refl
-              (delete_own part desk now caller page) (delete_done part desk now caller page)
-              asked.ready.reached.none_yet.no_desk;
+          step = ends_step part desk now caller (Delete page) after reply sound asked.front refl
+              (delete_own part desk now caller page) (delete_desk page)
+              (delete_done part desk now caller page) refl ended
+              (λ left told is. (deletion_ends_all part left told desk now caller page sound is).1);
           reply = ap Removed (removed_is ∙ ap length gone_is);
           opened = refl;
-          shut = refl;
-          change_fits = deletion_fits part page gone time kept.next_page kept.next_revision
-              asked.ready.reached.sound.pages named.0 named.1 gone_is;
-          leads = deletion_leads part now page gone time kept.next_page kept.next_revision
-              asked.ready.reached.sound.pages named.0 gone_is asked.ready.stands.no_desks
+          shut = shut_is;
+          no_text = refl;
+          fits = record {
+            change = deletion_fits part page gone time kept.next_page kept.next_revision sound.pages
+                named.0 named.1 gone_is;
+            opened = tt;
+          };
+          leads = deletion_leads part now page ended (Removed removed) gone shut time kept.next_page
+              kept.next_revision sound.pages named.0 gone_is shut_is
               (time_is ∙ ap (λ t. max t now) asked.ready.stands.time)
               asked.ready.stands.next_page asked.ready.stands.next_revision;
         };
-        room = record { rows = omega arith; revisions = omega arith; people = omega arith };
+        room = record {
+          rows = omega arith;
+          revisions = omega arith;
+          people = omega arith;
+          desks = omega arith;
+        };
       };
     }

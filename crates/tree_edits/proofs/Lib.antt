@@ -5,6 +5,7 @@ pub mod ReplyLemmas
 pub mod ParentLemmas
 pub mod RuleLemmas
 pub mod CommandLemmas
+pub mod EndingSteps
 pub mod StepRows
 pub mod AskedLemmas
 pub mod MoveRefusals

@@ -1,5 +1,5 @@
 -- The plan of a move that no rule refuses.
-use Rattle.std.proofs.Common.{◌≡◌, ◌≤◌, ℕ, Bool, true, false, cond, max, nat_eq, List, [], ◌∷◌, Option, Some, None, is_some, Ok, unwrap_or, refl, sym, ap, subst, ◌∙◌, arith}
+use Rattle.std.proofs.Common.{◌≡◌, ◌≤◌, ℕ, Bool, true, false, cond, max, nat_eq, List, [], ◌∷◌, filter, Option, Some, None, is_some, Ok, unwrap_or, refl, sym, ap, subst, ◌∙◌, arith}
 use Rattle.std.specs.Map.{lookup}
 use Rattle.page_tree.specs.Tree.{kids_of, kid_with_slug, without}
 use Rattle.page_tree.specs.Rows.{Row, rows_of, row_with}
@@ -13,7 +13,7 @@ use Rattle.site_types.specs.declared.refusal.Refusal.{Refusal}
 use Rattle.site_types.specs.declared.refusal.Refusal.TheVariants.{IntoItself, NothingNew}
 use Rattle.site_types.specs.declared.reply.Reply.{Reply}
 use Rattle.tree_model.specs.Changes.{path_in, changed_paths}
-use Rattle.tree_model.specs.Places.{stays_put, parent_at, slug_in, moved_to, leads_into_itself}
+use Rattle.tree_model.specs.Places.{stays_put, parent_at, slug_in, leads_into_itself}
 use Rattle.tree_model.proofs.CountLemmas.{has_counts, counts_has}
 use Rattle.page_store.specs.Pages.{ArePages}
 use Rattle.page_store.specs.declared.plan.MovePlan.{MovePlan}
@@ -21,24 +21,26 @@ use Rattle.path_moves.proofs.ApplyAfter.{planned_clear}
 use Rattle.site_model.specs.World as worlds
 use Rattle.site_model.specs.Step.{step_by}
 use Rattle.site_model.specs.Create.{page_reply}
+use Rattle.site_model.specs.LosingLaws.{is_lost_below}
 use Rattle.site_model.specs.Moves.{into_itself, effect_refusal, with_move}
 use Rattle.site_model.specs.Rules.{first_of, slug_taken}
 use Rattle.site_model.proofs.ClearLemmas.{first_clear, test_clear, slug_clear}
+use Rattle.site_model.proofs.LosingEnds.{move_ends}
 use Rattle.site_model.proofs.ReachedSound.{step_by_keeps_reached}
 use Rattle.flat_model.specs.Flat.{people_of, lists_of}
-use Rattle.flat_model.specs.Made.{made}
 use Rattle.flat_model.specs.Single.{tree_change}
 use Rattle.flat_model.specs.declared.change.Change.{Change}
 use Rattle.flat_model.specs.declared.change.TreeChange.TheVariants as trees
 use Rattle.flat_model.proofs.ListLemmas.{lists_are, quiet_revisions, quiet_people}
-use Rattle.grants.specs.Plans.{HasPlan, quiet_plan}
+use Rattle.grants.specs.Plans.{HasPlan, pages_of, pairs_left, quiet_plan, left_by}
+use Rattle.grants.specs.declared.plan.Plan.{Plan}
 use Rattle.grants.specs.Standing.{IsSame}
 use Rattle.grants.specs.declared.part.TreePart.{TreePart}
 use Rattle.grants.proofs.StandingLemmas.{same_ready}
-use Rattle.grants.proofs.StepLemmas.{plain, without_desks, plain_step}
 use Rattle.tree_edits.specs.Moving.{there_rules, IsNamed, IsMovePlan, told_reply}
 use Rattle.tree_edits.specs.Plans.{IsAsked, IsSoundTree}
-use Rattle.tree_edits.proofs.CommandLemmas.{move_names, move_own, move_done}
+use Rattle.tree_edits.proofs.CommandLemmas.{move_names, move_own, move_done, move_desk}
+use Rattle.tree_edits.proofs.EndingSteps.{ending, left_open, no_desk_fits, ends_step}
 use Rattle.tree_edits.proofs.MoveChange.{IsMove, move_fits, move_leads}
 use Rattle.tree_edits.proofs.MovePlans.{Found, found_of, movable_is}
 use Rattle.tree_edits.proofs.ReplyLemmas.{own_ids_of, told_path_is, told_reply_is}
@@ -73,19 +75,33 @@ module _ (kept : TreePart) (part : worlds.TreePart) (desk : Option ContentValue)
   abbrev reply : Reply
   reply = page_reply page after.tree
 
+  -- the desks that it ends
+  abbrev ended : List worlds.DeskPair
+  ended = filter (is_lost_below part page (parent_at part.tree target position)) part.desk_pairs
+
+  -- the world with the others
+  abbrev left : worlds.TreePart
+  left = left_open after ended part.desk_pairs
+
   -- the step leads there
   step_is : step_by part desk now caller (Move page target position)
-      ≡ Ok (without_desks after, plain reply)
+      ≡ Ok (left, ending reply ended)
   step_is =
-      plain_step part desk now caller (Move page target position) after reply asked.front refl
+      ends_step part desk now caller (Move page target position) after reply
+      asked.ready.reached.sound asked.front refl
       (move_own part desk now caller page target position ∙ clear)
-      (move_done part desk now caller page target position) asked.ready.reached.none_yet.no_desk
+      (move_desk page target position) (move_done part desk now caller page target position) refl
+      ended
+      (λ later told is. move_ends part later told desk now caller page target position
+      asked.ready.reached.sound is)
 
   -- the tree after it is sound
   sound_after : IsSoundTree after
   sound_after =
-      (step_by_keeps_reached part (without_desks after) (plain reply) desk now caller
-      (Move page target position) asked.ready.reached moment asked.fits step_is).0.sound.pages
+      (step_by_keeps_reached part left (ending reply ended) desk now caller
+      (Move page target position) asked.ready.reached moment asked.fits
+      (no_desk_fits part desk caller (Move page target position) (move_desk page target position))
+      step_is).sound.pages
 
   -- what the rules say of where the page goes
   into_clear : (into_itself part.tree page target position ≡ None)
@@ -176,38 +192,54 @@ module _ (kept : TreePart) (part : worlds.TreePart) (desk : Option ContentValue)
     change time next_page next_revision =
         tree_change (trees.Move plan urls) time next_page next_revision
 
+    -- the plan that ends the desks on these pages
+    abbrev planned_move : Reply → List ℕ → ℕ → ℕ → ℕ → Plan
+    planned_move told shut time next_page next_revision =
+        record (quiet_plan told (change time next_page next_revision)) { shut = shut }
+
     -- the plan can be committed where room was made
-    pub move_planned : (room : TreePart) (told : Reply) (time : ℕ) →
-        IsSame kept room → 2 ≤ room.rows.spare →
+    pub move_planned : (room : TreePart) (told : Reply) (shut : List ℕ) (time : ℕ) →
+        IsSame kept room → 2 ≤ room.rows.spare → shut ≡ pages_of ended →
         told ≡ told_reply kept.rows.pages page plan.rows urls → time ≡ max room.time now →
         HasPlan room part desk now caller (Move page target position)
-        (quiet_plan told (change time room.next_page room.next_revision))
-    move_planned room told time same spare reply_is time_is =
+        (planned_move told shut time room.next_page room.next_revision)
+    move_planned room told shut time same spare shut_is reply_is time_is =
         let ready = same_ready kept room part same asked.ready in
         record {
-          after = without_desks after;
-          effect = plain reply;
+          after = left;
+          effect = ending reply ended;
           can = record {
             ready = ready;
             right = record {
               step = step_is;
               reply = reply_is ∙ reply_told;
               opened = refl;
-              shut = refl;
-              change_fits = record {
-                tree = move_fits part.tree page target position plan urls is_move;
-                bodies = tt;
-                gone = tt;
-                revisions = tt;
-                people = tt;
+              shut = shut_is;
+              no_text = refl;
+              fits = record {
+                change = record {
+                  tree = move_fits part.tree page target position plan urls is_move;
+                  bodies = tt;
+                  gone = tt;
+                  revisions = tt;
+                  people = tt;
+                };
+                opened = tt;
               };
               leads = lists_are
-                  (made (change time room.next_page room.next_revision) (lists_of part))
-                  (lists_of (without_desks after)) (move_leads part.tree page target position plan urls is_move)
+                  (left_by (planned_move told shut time room.next_page room.next_revision)
+                  (lists_of part))
+                  (lists_of left) (move_leads part.tree page target position plan urls is_move)
                   (quiet_revisions part.revisions) (quiet_people (people_of part)) refl refl
-                  asked.ready.reached.none_yet.no_desk (time_is ∙ ap (λ t. max t now) ready.stands.time) ready.stands.next_page
+                  (ap (λ ids. pairs_left ids part.desk_pairs) shut_is)
+                  (time_is ∙ ap (λ t. max t now) ready.stands.time) ready.stands.next_page
                   ready.stands.next_revision;
             };
-            room = record { rows = spare; revisions = omega arith; people = omega arith };
+            room = record {
+              rows = spare;
+              revisions = omega arith;
+              people = omega arith;
+              desks = omega arith;
+            };
           };
         }

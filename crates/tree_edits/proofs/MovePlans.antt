@@ -1,5 +1,5 @@
 -- The plan of a move and the URLs that change with it are those of the tree.
-use Rattle.std.proofs.Common.{◌≡◌, ◌⊎◌, inl, inr, ℕ, ◌+◌, ◌≤◌, Bool, true, false, cond, ◌&&◌, List, Option, Some, None, is_some, IsSome, IfSome, Result, Ok, Err, nat_eq, refl, sym, ap, subst, ◌∙◌, arith, rules}
+use Rattle.std.proofs.Common.{◌≡◌, inl, inr, ℕ, ◌+◌, ◌≤◌, Bool, true, false, ◌&&◌, List, Option, Some, None, is_some, IsSome, IfSome, Result, Ok, Err, nat_eq, refl, sym, ap, subst, ◌∙◌, arith, rules}
 use Rattle.std.specs.Borrow.{Bor}
 use Rattle.std.specs.Option.{option_copied, option_map}
 use Rattle.site_types.specs.declared.page_row.PageRow.{PageRow}
@@ -27,19 +27,19 @@ use Rattle.path_moves.specs.Plans as moves
 use Rattle.path_moves.proofs.Planned.{into_is}
 use Rattle.path_moves.proofs.Positions.{new_place}
 use Rattle.slug_urls.specs.declared.fault.UrlFault.{UrlFault}
+use Rattle.slug_urls.specs.declared.fault.UrlFault.TheVariants as urls
 use Rattle.slug_urls.specs.Plans as plans
 use Rattle.slug_urls.proofs.LawLemmas.{move_is, long_is_new}
-use Rattle.site_types.specs.declared.refusal.Refusal.TheVariants.{IntoItself, NothingNew}
+use Rattle.site_types.specs.declared.refusal.Refusal.TheVariants.{IntoItself, NothingNew, SlugTaken}
 use Rattle.site_model.specs.World.{TreePart}
 use Rattle.site_model.specs.Moves.{effect_refusal}
 use Rattle.site_model.specs.Rules.{first_of}
 use Rattle.tree_edits.specs.Plans.{PlansBy, IsSoundTree}
 use Rattle.site_model.proofs.MoveSound.{no_zero}
 use Rattle.site_model.proofs.RowLemmas.{rows_too_deep}
-use Rattle.grants.specs.declared.fault.Fault.{Fault}
-use Rattle.grants.specs.declared.fault.Fault.TheVariants.{Refused, Memory}
+use Rattle.grants.specs.declared.fault.Fault.TheVariants.{Refused}
 use Rattle.tree_edits.specs.Faults.{both_of}
-use Rattle.tree_edits.specs.Moving.{there_rules, early_fault, IsNamed, IsAway, IsMovePlan}
+use Rattle.tree_edits.specs.Moving.{there_rules, taken_by, IsNamed, IsAway, IsMovePlan}
 use Rattle.tree_edits.proofs.LookUpLemmas.{row_there}
 use Rattle.tree_edits.proofs.StepRows.{any_past, graft_past}
 use Rattle.tree_edits.proofs.MoveRefusals.{refused_stays, refused_late, refused_itself, planned_both, none_long}
@@ -122,6 +122,16 @@ urls_change tree page target position distinct found =
     move_is tree distinct page parent (place_at (without page tree) target position) found.here
     (counts_has parent (without page tree) (omega (arith, one)))
     (counts_has page (moved_to tree page target position) (omega (arith, same, some)))
+
+-- a move goes elsewhere where its page does not stay, and does not lead into the page itself
+pub away_is : (pages : List (Row Body)) (part : TreePart) (page target : ℕ)
+    (position : Position) → IsNamed pages part page target position →
+    stays_put page target position ≡ false → (leads : Bool) →
+    (stays_put page target position ≡ false →
+    leads ≡ leads_into_itself part.tree page target position) →
+    leads ≡ false → IsAway pages part page target position
+away_is pages part page target position named moves leads is none =
+    record { named = named; moves = moves; outside = sym (is moves) ∙ none }
 
 -- The new parent is there, and its row does not begin with the page's path.
 pub record IsOutside (rows : List (Row Body)) (page parent : ℕ) : Type 0 where
@@ -216,73 +226,61 @@ module _ (part : TreePart) (page target : ℕ) (position : Position)
         urls = sym change;
       }))
 
-  -- so are a plan and URLs that are not refused early
+  -- where memory ran out for the plan, and the slug is free, nothing is told
+  no_memory : (urls : Result (List (ℕ × List ℕ)) UrlFault) → taken_by urls ≡ None →
+      PlansBy (first_of (there_rules part.tree page target position))
+      (IsMovePlan part.tree page target position) (both_of (Err paths.Memory) urls)
+  no_memory (Ok urls) free = tt
+  no_memory (Err (urls.Taken other)) free = absurd (cc)
+  no_memory (Err urls.TooLong) free = tt
+  no_memory (Err urls.Memory) free = tt
+
+  -- so are a plan and URLs, where the slug is free
   pub late_planned : (plan : Result MovePlan PathFault)
-      (urls : Result (List (ℕ × List ℕ)) UrlFault) → early_fault plan ≡ None →
+      (urls : Result (List (ℕ × List ℕ)) UrlFault) → taken_by urls ≡ None →
       moves.UnlessMemory (moves.planned_move part.tree page target position) plan →
       plans.UnlessMemory (plans.planned_urls part.tree page parent (slug_in part.tree page)) urls →
       PlansBy (first_of (there_rules part.tree page target position))
       (IsMovePlan part.tree page target position) (both_of plan urls)
-  late_planned plan urls early (inl out) other =
-      let fault = ap early_fault out in absurd (cc)
-  late_planned plan urls early (inr is) (inl out) = rw out tt
-  late_planned plan urls early (inr is) (inr are) =
+  late_planned plan urls free (inl out) other = rw out (no_memory urls free)
+  late_planned plan urls free (inr is) (inl out) = rw out tt
+  late_planned plan urls free (inr is) (inr are) =
       rw (
         is,
         are,
         refused_late part.tree page target position asked.moves asked.outside,
       ) both_planned
 
--- a plan that is not made is refused
-itself_told : (leads full deep : Bool) (made : MovePlan) (plan : Result MovePlan PathFault) →
-    moves.UnlessMemory (cond leads (Err paths.IntoItself) (cond full (Err paths.StepsFull)
-    (cond deep (Err paths.TooDeep) (Ok made)))) plan → early_fault plan ≡ None → leads ≡ false
-itself_told true full deep made plan (inl out) early = let fault = ap early_fault out in absurd (cc)
-itself_told true full deep made plan (inr is) early = let fault = ap early_fault is in absurd (cc)
-itself_told false full deep made plan planned early = refl
+  -- a slug that is taken refuses the move, whatever its path would be
+  taken_refuses : (other : ℕ) (urls : Result (List (ℕ × List ℕ)) UrlFault) →
+      taken_by urls ≡ Some other → (plan : Result MovePlan PathFault) →
+      both_of plan urls ≡ Err (Refused (SlugTaken other))
+  taken_refuses other (Ok urls) is plan = absurd (cc)
+  taken_refuses other (Err (urls.Taken kid)) is plan =
+      let same : kid ≡ other = cc in ap (λ id. Err (Refused (SlugTaken id))) same
+  taken_refuses other (Err urls.TooLong) is plan = absurd (cc)
+  taken_refuses other (Err urls.Memory) is plan = absurd (cc)
 
--- a plan that there is, or that comes after the URLs, does not lead into the page itself
-pub not_itself : (tree : Forest Body) (page target : ℕ) (position : Position)
-    (plan : Result MovePlan PathFault) →
-    moves.UnlessMemory (moves.planned_move tree page target position) plan →
-    early_fault plan ≡ None → leads_into_itself tree page target position ≡ false
-not_itself tree page target position plan planned early =
-    itself_told (leads_into_itself tree page target position) _ _ _ plan planned early
+  -- so the rules refuse it
+  pub taken_told : (other : ℕ) (urls : Result (List (ℕ × List ℕ)) UrlFault) →
+      taken_by urls ≡ Some other →
+      plans.UnlessMemory (plans.planned_urls part.tree page parent (slug_in part.tree page)) urls →
+      first_of (there_rules part.tree page target position) ≡ Some (SlugTaken other)
+  taken_told other urls is (inl out) = let none = ap taken_by out in absurd (cc)
+  taken_told other urls is (inr are) =
+      refused_late part.tree page target position asked.moves asked.outside
+      ∙ subst (PlansBy (effect_refusal part.tree page target position)
+      (IsMovePlan part.tree page target position))
+      (taken_refuses other (plans.planned_urls part.tree page parent (slug_in part.tree page))
+      (ap taken_by (sym are) ∙ is) (moves.planned_move part.tree page target position))
+      both_planned
 
--- a fault that comes early is one of memory, or the move leads into the page itself
-early_told : (leads full deep : Bool) (made : MovePlan) (plan : Result MovePlan PathFault)
-    (fault : Fault) →
-    moves.UnlessMemory (cond leads (Err paths.IntoItself) (cond full (Err paths.StepsFull)
-    (cond deep (Err paths.TooDeep) (Ok made)))) plan → early_fault plan ≡ Some fault →
-    (fault ≡ Memory) ⊎ ((fault ≡ Refused IntoItself) × (leads ≡ true))
-early_told leads full deep made plan fault (inl out) early =
-    let told = ap early_fault out in inl (cc)
-early_told true full deep made plan fault (inr is) early =
-    let told = ap early_fault is in let same : fault ≡ Refused IntoItself = cc in inr (same, refl)
-early_told false true deep made plan fault (inr is) early =
-    let told = ap early_fault is in absurd (cc)
-early_told false false true made plan fault (inr is) early =
-    let told = ap early_fault is in absurd (cc)
-early_told false false false made plan fault (inr is) early =
-    let told = ap early_fault is in absurd (cc)
-
--- so the move is refused as its rules say
-pub refused_by_plan : (tree : Forest Body) (page target : ℕ) (position : Position)
-    (plan : Result MovePlan PathFault) (fault : Fault) →
-    moves.UnlessMemory (moves.planned_move tree page target position) plan →
-    early_fault plan ≡ Some fault →
-    PlansBy (first_of (there_rules tree page target position))
-    (IsMovePlan tree page target position) (Err fault)
-refused_by_plan tree page target position plan fault planned early =
-    by (early_told (leads_into_itself tree page target position) _ _ _ plan fault planned early)
-  where
-    by : (fault ≡ Memory)
-        ⊎ ((fault ≡ Refused IntoItself)
-        × (leads_into_itself tree page target position ≡ true)) →
-        PlansBy (first_of (there_rules tree page target position))
-        (IsMovePlan tree page target position) (Err fault)
-    by (inl out) = rw out tt
-    by (inr into) = rw into.0 (refused_itself tree page target position into.1)
+-- a move that leads into the page itself is refused
+pub itself_refused : (part : TreePart) (page target : ℕ) (position : Position) →
+    leads_into_itself part.tree page target position ≡ true →
+    first_of (there_rules part.tree page target position) ≡ Some IntoItself
+itself_refused part page target position inside =
+    refused_itself part.tree page target position inside
 
 -- a move of a page that stays where it is
 pub stays_refused : (pages : List (Row Body)) (part : TreePart) (page target : ℕ)

@@ -1,5 +1,5 @@
 -- Rules that are tried one after the other.
-use Rattle.std.proofs.Common.{◌≡◌, ◌&&◌, Bool, true, false, List, [], ◌∷◌, ◌++◌, Option, Some, None, refl}
+use Rattle.std.proofs.Common.{◌≡◌, List, [], ◌∷◌, ◌++◌, Option, Some, None, refl}
 use Rattle.site_types.specs.declared.refusal.Refusal.{Refusal}
 use Rattle.site_model.specs.Rules.{first_of}
 

@@ -1,5 +1,5 @@
 -- The plan of another slug that no rule refuses.
-use Rattle.std.proofs.Common.{◌≡◌, ◌≤◌, ℕ, Bool, true, false, cond, max, List, [], ◌∷◌, Option, Some, None, is_some, IsSome, Ok, Err, bytes_eq, unwrap_or, refl, sym, ap, subst, ◌∙◌, arith}
+use Rattle.std.proofs.Common.{◌≡◌, ◌≤◌, ℕ, Bool, true, false, cond, max, List, [], Option, Some, None, is_some, IsSome, Ok, bytes_eq, unwrap_or, refl, sym, ap, subst, ◌∙◌, arith}
 use Rattle.std.specs.Option.{option_map}
 use Rattle.page_tree.specs.Tree.{kids_of, kid_with_slug, without}
 use Rattle.page_tree.specs.Rows.{Row, rows_of, row_with}
@@ -7,36 +7,34 @@ use Rattle.site_ids.specs.Moment.{IsMoment}
 use Rattle.site_types.specs.Content.{ContentValue}
 use Rattle.site_types.specs.declared.body.Body.{Body}
 use Rattle.site_types.specs.declared.command.Command.TheVariants.{SetSlug}
-use Rattle.site_types.specs.declared.refusal.Refusal.{Refusal}
 use Rattle.site_types.specs.declared.refusal.Refusal.TheVariants.{NothingNew}
 use Rattle.site_types.specs.declared.reply.Reply.{Reply}
 use Rattle.tree_model.specs.Places.{parent_in, slug_in}
-use Rattle.tree_model.specs.Renames.{renamed}
 use Rattle.page_store.specs.Pages.{ArePages}
 use Rattle.page_store.specs.Relabelling.{AreListed}
 use Rattle.site_model.specs.World as worlds
 use Rattle.site_model.specs.Step.{step_by}
 use Rattle.site_model.specs.Create.{page_reply}
-use Rattle.site_model.specs.Rules.{first_of, slug_taken}
+use Rattle.site_model.specs.Rules.{slug_taken}
 use Rattle.site_model.specs.Slugs.{effect_refusal, slug_rules, with_slug as renamed_part}
 use Rattle.site_model.proofs.ClearLemmas.{first_clear, slug_clear}
 use Rattle.site_model.proofs.ReachedSound.{step_by_keeps_reached}
 use Rattle.flat_model.specs.Fits.{Fits}
 use Rattle.flat_model.specs.Flat.{people_of, lists_of}
-use Rattle.flat_model.specs.Made.{made, with_name}
+use Rattle.flat_model.specs.Made.{with_name}
 use Rattle.flat_model.specs.Single.{tree_change}
 use Rattle.flat_model.specs.declared.change.Change.{Change}
 use Rattle.flat_model.specs.declared.change.TreeChange.TheVariants as trees
 use Rattle.flat_model.proofs.ListLemmas.{lists_are, quiet_revisions, quiet_people}
-use Rattle.grants.specs.Plans.{HasPlan, quiet_plan}
+use Rattle.grants.specs.Plans.{HasPlan, quiet_plan, left_by}
 use Rattle.grants.specs.Standing.{IsSame}
 use Rattle.grants.specs.declared.part.TreePart.{TreePart}
 use Rattle.grants.proofs.StandingLemmas.{same_ready}
-use Rattle.grants.proofs.StepLemmas.{plain, without_desks, plain_step}
 use Rattle.tree_edits.specs.Moving.{told_reply}
 use Rattle.tree_edits.specs.Naming.{IsBelow, AreNewUrls}
 use Rattle.tree_edits.specs.Plans.{IsAsked, IsSoundTree, IsBelowRoot}
-use Rattle.tree_edits.proofs.CommandLemmas.{slug_names, slug_own, slug_done}
+use Rattle.tree_edits.proofs.CommandLemmas.{slug_names, slug_own, slug_done, slug_desk, slug_quiet}
+use Rattle.tree_edits.proofs.EndingSteps.{ending, left_open, no_desk_fits, quiet_step}
 use Rattle.tree_edits.proofs.ListedUrls.{slug_listed}
 use Rattle.tree_edits.proofs.LookUpLemmas.{row_there}
 use Rattle.tree_edits.proofs.ReplyLemmas.{told_reply_is}
@@ -74,19 +72,24 @@ module _ (kept : TreePart) (part : worlds.TreePart) (desk : Option ContentValue)
   named : IsBelowRoot part.tree page
   named = slug_names part caller page slug asked.front
 
-  -- the step leads there
-  step_is : step_by part desk now caller (SetSlug page slug)
-      ≡ Ok (without_desks after, plain reply)
+  -- with all its open desks
+  abbrev left : worlds.TreePart
+  left = left_open after [] part.desk_pairs
+
+  -- the step leads there, and ends no desk
+  step_is : step_by part desk now caller (SetSlug page slug) ≡ Ok (left, ending reply [])
   step_is =
-      plain_step part desk now caller (SetSlug page slug) after reply asked.front refl
-      (slug_own part desk now caller page slug ∙ clear)
-      (slug_done part desk now caller page slug) asked.ready.reached.none_yet.no_desk
+      let quiet = slug_quiet page slug in
+      quiet_step part desk now caller (SetSlug page slug) after reply asked.ready.reached.sound
+      asked.front refl (slug_own part desk now caller page slug ∙ clear) (slug_desk page slug)
+      (slug_done part desk now caller page slug) refl quiet.0 quiet.1
 
   -- the tree after it is sound
   sound_after : IsSoundTree after
   sound_after =
-      (step_by_keeps_reached part (without_desks after) (plain reply) desk now caller
-      (SetSlug page slug) asked.ready.reached moment asked.fits step_is).0.sound.pages
+      (step_by_keeps_reached part left (ending reply []) desk now caller (SetSlug page slug)
+      asked.ready.reached moment asked.fits
+      (no_desk_fits part desk caller (SetSlug page slug) (slug_desk page slug)) step_is).sound.pages
 
   -- the page's row
   own_row : (row : Row Body) × (row_with page (rows_of part.tree) ≡ Some row)
@@ -150,16 +153,19 @@ module _ (kept : TreePart) (part : worlds.TreePart) (desk : Option ContentValue)
     }
 
     -- it leads to those of the world after it
-    change_leads : (time next_page next_revision : ℕ) → time ≡ worlds.time_at part now →
-        next_page ≡ part.next_page → next_revision ≡ part.next_revision →
-        made (change slug time next_page next_revision) (lists_of part) ≡ lists_of (without_desks after)
-    change_leads time next_page next_revision time_is page_is revision_is =
-        lists_are (made (change slug time next_page next_revision) (lists_of part))
-        (lists_of (without_desks after))
+    change_leads : (told : Reply) (time next_page next_revision : ℕ) →
+        time ≡ worlds.time_at part now → next_page ≡ part.next_page →
+        next_revision ≡ part.next_revision →
+        left_by (quiet_plan told (change slug time next_page next_revision)) (lists_of part)
+        ≡ lists_of left
+    change_leads told time next_page next_revision time_is page_is revision_is =
+        lists_are
+        (left_by (quiet_plan told (change slug time next_page next_revision)) (lists_of part))
+        (lists_of left)
         (ap (λ pairs. with_name page slug pairs (rows_of part.tree)) news
         ∙ slug_rows part.tree asked.ready.reached.sound.pages.distinct page slug)
         (quiet_revisions part.revisions) (quiet_people (people_of part)) refl refl
-        asked.ready.reached.none_yet.no_desk time_is page_is revision_is
+        refl time_is page_is revision_is
 
     -- the plan can be committed where room was made
     pub slug_planned : (room : TreePart) (told : Reply) (paths : List (ℕ × List ℕ))
@@ -173,8 +179,8 @@ module _ (kept : TreePart) (part : worlds.TreePart) (desk : Option ContentValue)
         subst (λ t. HasPlan room part desk now caller (SetSlug page slug)
         (quiet_plan told (change t time room.next_page room.next_revision))) (sym text_is)
         (record {
-          after = without_desks after;
-          effect = plain reply;
+          after = left;
+          effect = ending reply [];
           can = record {
             ready = ready;
             right = record {
@@ -184,11 +190,20 @@ module _ (kept : TreePart) (part : worlds.TreePart) (desk : Option ContentValue)
                   ∙ reply_told);
               opened = refl;
               shut = refl;
-              change_fits = change_fits time room.next_page room.next_revision;
-              leads = change_leads time room.next_page room.next_revision
+              no_text = refl;
+              fits = record {
+                change = change_fits time room.next_page room.next_revision;
+                opened = tt;
+              };
+              leads = change_leads told time room.next_page room.next_revision
                   (time_is ∙ ap (λ t. max t now) ready.stands.time) ready.stands.next_page
                   ready.stands.next_revision;
             };
-            room = record { rows = spare; revisions = omega arith; people = omega arith };
+            room = record {
+              rows = spare;
+              revisions = omega arith;
+              people = omega arith;
+              desks = omega arith;
+            };
           };
         })

@@ -8,12 +8,16 @@ ghost use Rattle.tree_edits.specs.Plans.{IsAsked};
 
 use crate::telling::later;
 use grants::{Change, Fault, Plan, TreeChange, TreePart};
+use lost_desks::lost_by_deletion;
 use path_moves::plan_delete;
 use site_types::{Moment, PageId, Reply};
 use std::alloc::Global;
 
-/// The plan of a deletion of a page that is there and below the root, which its caller may give. It
-/// costs a look-up for each page that goes, and no room is needed.
+/// The plan of a deletion of a page that is there and below the root, which its caller may give. The
+/// desks on the page and below it end.
+///
+/// It costs a look-up for each page that goes, and for each open desk a look-up for each page above
+/// it; no room is needed.
 pub(crate) fn plan_deletion(
     alloc: Global,
     part: &TreePart,
@@ -29,6 +33,9 @@ pub(crate) fn plan_deletion(
     let Ok(gone) = plan_delete(alloc, &part.rows, page) else {
         return Err(Fault::Memory);
     };
+    let Ok(shut) = lost_by_deletion(alloc, part, page) else {
+        return Err(Fault::Memory);
+    };
     let reply = Reply::Removed(gone.len() as u32);
     let mut change = Change::of_tree(
         alloc,
@@ -38,5 +45,7 @@ pub(crate) fn plan_deletion(
         part.next_revision,
     );
     change.gone = gone;
-    Ok(Plan::quiet(alloc, reply, change))
+    let mut plan = Plan::quiet(alloc, reply, change);
+    plan.shut = shut;
+    Ok(plan)
 }

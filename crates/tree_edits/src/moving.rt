@@ -1,5 +1,5 @@
 //! Plans of moves.
-ghost use Rattle.std.specs.Prelude.{◌≡◌, ℕ, Option};
+ghost use Rattle.std.specs.Prelude.{◌≡◌, ℕ, Option, IfOk};
 ghost use Rattle.site_types.specs.Content.{ContentValue};
 ghost use Rattle.page_tree.specs.Rows.{rows_of};
 ghost use Rattle.site_types.specs.declared.command.Command.TheVariants as commands;
@@ -8,23 +8,25 @@ ghost use Rattle.slug_urls.specs.Plans.{planned_urls, UnlessMemory};
 ghost use Rattle.site_model.specs.World as worlds;
 ghost use Rattle.site_model.specs.Rules.{first_of};
 ghost use Rattle.grants.specs.Plans.{Prepares};
-ghost use Rattle.grants.specs.Standing.{IsSame};
-ghost use Rattle.tree_edits.specs.Plans.{PlansBy, IsAsked};
-ghost use Rattle.tree_edits.specs.Moving.{there_rules, early_fault, IsNamed, IsAway, IsMovePlan};
+ghost use Rattle.grants.specs.Standing.{IsReady, IsSame};
+ghost use Rattle.tree_edits.specs.Plans.{PlansBy, IsAsked, NamesMove};
+ghost use Rattle.tree_edits.specs.Moving.{there_rules, taken_by, IsNamed, IsAway, IsMovePlan, AreLostBelow};
 
 use crate::place::both;
 use crate::telling::{later, told_page};
 use grants::{Change, Fault, Plan, TreeChange, TreePart};
+use lost_desks::lost_by_move;
 use page_store::{MovePlan, Rows, Urls, is_beside, new_parent};
-use path_moves::{PathFault, plan_move};
-use site_types::{Moment, PageId, Position, Refusal};
+use path_moves::{leads_into_itself, plan_move};
+use site_types::{Ids, Moment, NoMemory, PageId, Position, Refusal};
 use slug_urls::{UrlFault, plan_urls};
 use std::alloc::Global;
 
 /// The plan of a move that names pages which are there, and which its caller may give.
 ///
 /// It costs what `plan_move` and `plan_urls` cost: a few look-ups for each page that moves and for
-/// each later sibling with all below it, and one URL for each page whose URL changes.
+/// each later sibling with all below it, and one URL for each page whose URL changes; and what
+/// `lost_by_move` costs.
 pub(crate) fn plan_moving(
     alloc: Global,
     part: &mut TreePart,
@@ -48,6 +50,9 @@ pub(crate) fn plan_moving(
     let Ok(reply) = told_page(alloc, &part.rows, page, &plan.rows, &urls) else {
         return Err(Fault::Memory);
     };
+    let Ok(shut) = shut_there(alloc, part, page, target, position) else {
+        return Err(Fault::Memory);
+    };
     let Ok(()) = part.rows.reserve(2) else {
         return Err(Fault::Memory);
     };
@@ -58,11 +63,33 @@ pub(crate) fn plan_moving(
         part.next_page,
         part.next_revision,
     );
-    Ok(Plan::quiet(alloc, reply, change))
+    let mut made = Plan::quiet(alloc, reply, change);
+    made.shut = shut;
+    Ok(made)
+}
+
+/// The pages, rising, whose desks end as a page goes to a position at a target page: those on the
+/// page and below it whose users may not edit there below the new parent.
+fn shut_there(
+    alloc: Global,
+    part: &TreePart,
+    page: PageId,
+    target: PageId,
+    position: Position,
+) -> Result<Ids, NoMemory>
+    requires { (world : worlds.TreePart) × IsReady part.now world
+        × NamesMove world.tree page target position }
+    ensures { (world : worlds.TreePart) → IsReady part.now world
+        → IfOk result (AreLostBelow world page (parent_at world.tree target position)) }
+{
+    let parent = new_parent(&part.rows, target, position);
+    lost_by_move(alloc, part, page, parent)
 }
 
 /// The plan of a move and the URLs that change with it, or why it is refused: the first of the
 /// rules that does.
+///
+/// A target in the page itself and a slug that is taken cost a few look-ups.
 fn plan_there(
     alloc: Global,
     rows: &Rows,
@@ -78,12 +105,25 @@ fn plan_there(
     if stays(page, target, position) {
         return Err(Fault::Refused(Refusal::NothingNew));
     }
-    let plan = plan_move(alloc, rows, page, target, position);
-    if let Some(fault) = first_fault(&plan) {
-        return Err(fault);
+    if leads_into_itself(rows, page, target) {
+        return Err(Fault::Refused(Refusal::IntoItself));
     }
     let urls = urls_there(alloc, rows, page, target, position);
+    if let Some(other) = taken(&urls) {
+        return Err(Fault::Refused(Refusal::SlugTaken(other)));
+    }
+    let plan = plan_move(alloc, rows, page, target, position);
     both(plan, urls)
+}
+
+/// The page that has the slug, if that is why there are no URLs.
+fn taken(urls: &Result<Urls, UrlFault>) -> Option<PageId>
+    ensures { result ≡ taken_by urls.now }
+{
+    match urls {
+        Err(UrlFault::Taken(other)) => Some(*other),
+        _ => None,
+    }
 }
 
 /// Whether the target is the page itself, at a position among its own siblings.
@@ -91,17 +131,6 @@ fn stays(page: PageId, target: PageId, position: Position) -> bool
     ensures { result ≡ stays_put page target position }
 {
     page == target && is_beside(position)
-}
-
-/// The fault of a plan that comes before those of the URLs.
-fn first_fault(plan: &Result<MovePlan, PathFault>) -> Option<Fault>
-    ensures { result ≡ early_fault plan.now }
-{
-    match plan {
-        Err(PathFault::IntoItself) => Some(Fault::Refused(Refusal::IntoItself)),
-        Err(PathFault::Memory) => Some(Fault::Memory),
-        _ => None,
-    }
 }
 
 /// The URLs that change where a page goes to a position at a target page.

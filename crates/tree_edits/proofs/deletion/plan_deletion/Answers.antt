@@ -1,9 +1,9 @@
--- The pages that go are listed, and they are no more than there are ids.
+-- The pages that go are listed, and they are no more than there are ids; so are the desks that end.
 use Rattle.std.proofs.Common.{◌≡◌, length, ap, arith}
 use Rattle.page_tree.specs.Tree.{node_of, ids_of}
 use Rattle.flat_model.specs.declared.change.Change.{Change}
 use Rattle.site_types.specs.declared.command.Command.TheVariants.{Delete}
-use Rattle.tree_edits.proofs.AskedLemmas.{planned_is}
+use Rattle.tree_edits.proofs.AskedLemmas.{ending_is}
 use Rattle.tree_edits.proofs.DeletionLemmas.{count_fits, deletion_planned}
 use Rattle.tree_edits.proofs.deletion.plan_deletion.Goals as goal
 
@@ -19,7 +19,8 @@ overflow_cast-reply c =
 
 pub returns : goal.returns
 returns c = λ world desk caller asked.
-    planned_is (Delete c.args.page) _ world desk c.args.now caller _ _ _ _ c.quiet.ensures
+    ending_is (Delete c.args.page) _ world desk c.args.now caller _ _ _ _ _ c.quiet-plan.ensures
     (ap (λ (change : Change). record change { gone = c.in-Ok.gone }) c.of_tree-change.ensures)
-    (deletion_planned c.args.part.now world desk c.args.now caller c.args.page _ _ _ asked
-    (c.in-Ok.ensures world.tree asked.ready.stands.pages) c.len.ensures c.later.ensures.value)
+    (deletion_planned c.args.part.now world desk c.args.now caller c.args.page _ _ _ _ asked
+    (c.in-Ok.ensures world.tree asked.ready.stands.pages) (c.in-Ok-lost_by_deletion.ensures world
+    asked.ready) c.len.ensures c.later.ensures.value)

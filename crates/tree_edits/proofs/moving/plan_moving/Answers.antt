@@ -3,7 +3,7 @@ use Rattle.std.proofs.Common.{refl}
 use Rattle.site_types.specs.declared.command.Command.TheVariants.{Move}
 use Rattle.site_model.specs.Moves.{move_rules}
 use Rattle.tree_edits.specs.Moving.{IsMovePlan}
-use Rattle.tree_edits.proofs.AskedLemmas.{own_refused, planned_is}
+use Rattle.tree_edits.proofs.AskedLemmas.{own_refused, ending_is}
 use Rattle.tree_edits.proofs.CommandLemmas.{move_own}
 use Rattle.tree_edits.proofs.MoveLemmas.{move_named, move_planned}
 use Rattle.tree_edits.proofs.MovePlans.{rows_named}
@@ -36,15 +36,25 @@ pub returns-clause-plan : goal.returns-clause-plan
 returns-clause-plan c = λ world desk caller asked.
     let made = c.in-Ok.ensures world (move_named c.args.part.now world caller c.args.page
     c.args.target c.args.position asked) in
-    planned_is (Move c.args.page c.args.target c.args.position) _ world desk c.args.now caller
-    _ _ _ _ c.quiet.ensures c.of_tree-change.ensures
+    ending_is (Move c.args.page c.args.target c.args.position) _ world desk c.args.now caller
+    _ _ _ _ _ c.quiet-made.ensures c.of_tree-change.ensures
     (move_planned c.args.part.now world desk c.args.now caller c.args.page c.args.target
     c.args.position asked c.later.ensures.moment c.in-Ok.made.0 c.in-Ok.made.1 made.0 made.1
-    c.len-len.ensures.pages _ _ _ (record {
+    c.len-len.ensures.pages _ _ _ _ (record {
       pages = c.reserve.ensures.pages;
       revisions = refl;
       lists = record { users = refl; groups = refl; members = refl; grants = refl };
+      desks = refl;
       time = refl;
       next_page = refl;
       next_revision = refl;
-    }) c.in-Ok-reserve.ensures.ok c.in-Ok-told_page.ensures c.later.ensures.value)
+    }) c.in-Ok-reserve.ensures.ok (c.in-Ok-shut_there.ensures world asked.ready)
+    c.in-Ok-told_page.ensures c.later.ensures.value)
+
+pub shut_there-requires : goal.shut_there-requires
+shut_there-requires c = (
+  c.requires.0,
+  c.requires.2.ready,
+  (move_named c.args.part.now c.requires.0 c.requires.1 c.args.page c.args.target c.args.position
+      c.requires.2).named,
+)

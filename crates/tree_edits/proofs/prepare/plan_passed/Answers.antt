@@ -1,7 +1,6 @@
 -- Each command is planned by the function for it.
 use Rattle.std.proofs.Common.{sym, subst}
 use Rattle.site_types.specs.declared.command.Command.{Command}
-use Rattle.site_model.specs.World as worlds
 use Rattle.grants.specs.Plans.{Prepares}
 use Rattle.tree_edits.specs.Plans.{IsAsked}
 use Rattle.tree_edits.proofs.prepare.plan_passed.Goals as goal

@@ -16,7 +16,7 @@ plan_passed-requires-clause-asked c =
         ready = ready;
         fits = c.requires.ready.2;
         front = passed _ (sym c.in-Ok.is
-            ∙ c.front.ensures world ready.stands (no_moderation world.tree ready.reached.none_yet.drafts));
+            ∙ c.front.ensures world ready.stands (no_moderation world ready.reached));
       },
     )
 
@@ -26,11 +26,11 @@ returns-in-Ok-clause-plan c = λ world desk ready fits.
       ready = ready;
       fits = fits;
       front = passed _ (sym c.in-Ok.is
-          ∙ c.front.ensures world ready.stands (no_moderation world.tree ready.reached.none_yet.drafts));
+          ∙ c.front.ensures world ready.stands (no_moderation world ready.reached));
     })
 
 pub returns-in-Err-clause-plan : goal.returns-in-Err-clause-plan
 returns-in-Err-clause-plan c = λ world desk ready fits.
     front_refuses world desk c.args.now c.args.caller c.args.command.now c.in-Err.refusal
     (refused _ c.in-Err.refusal (sym c.in-Err.is
-    ∙ c.front.ensures world ready.stands (no_moderation world.tree ready.reached.none_yet.drafts)))
+    ∙ c.front.ensures world ready.stands (no_moderation world ready.reached)))

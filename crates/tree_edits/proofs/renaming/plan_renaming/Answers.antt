@@ -40,6 +40,7 @@ returns-clause-plan c = λ world desk caller asked.
       pages = c.reserve.ensures.pages;
       revisions = refl;
       lists = record { users = refl; groups = refl; members = refl; grants = refl };
+      desks = refl;
       time = refl;
       next_page = refl;
       next_revision = refl;

@@ -1,0 +1,147 @@
+-- What is known of the page of a command that its first rules let pass.
+use Rattle.std.proofs.Common.{◌≡◌, ◌&&◌, ◌||◌, ℕ, Bool, true, false, cond, nat_eq, List, [], ◌∷◌, Option, Some, None, refl, sym, ap, subst, ◌∙◌}
+use Rattle.std.specs.List.{list_any}
+use Rattle.std.specs.Option.{option_and_then}
+use Rattle.page_tree.specs.Tree.{Forest, has_page}
+use Rattle.site_types.specs.declared.body.Body.{Body}
+use Rattle.site_types.specs.declared.command.Command.TheVariants as commands
+use Rattle.site_types.specs.declared.revision.Revision.{Revision}
+use Rattle.tree_model.specs.Shape.{AllPages}
+use Rattle.tree_model.proofs.CountLemmas.{has_counts, node_found}
+use Rattle.tree_model.proofs.PageLemmas.{AllPages-node_of}
+use Rattle.site_model.specs.World as worlds
+use Rattle.site_model.specs.Bodies.{revision_with, latest_of}
+use Rattle.site_model.specs.Front.{Stops, StopsNobody, StopsOthers, StopsEveryone, on_page, row_of, front_by, front_rules}
+use Rattle.site_model.specs.Needs.{needs_of}
+use Rattle.site_model.specs.Reached.{IsReachedPart}
+use Rattle.site_model.specs.Sound.{IsBody, is_own}
+use Rattle.site_model.specs.Views.{first_body, body_of}
+use Rattle.site_model.proofs.AcceptLemmas.{front_parts, page_found}
+use Rattle.site_model.proofs.Deeds.{below_root}
+
+-- A page that is there, and is not the root.
+pub record IsBelow (tree : Forest Body) (page : ℕ) : Type 0 where
+  pub there : has_page page tree ≡ true
+  pub below : page ≡ 1 → ⊥
+
+module _ (part : worlds.TreePart) (caller page : ℕ) where
+  -- the page of a command on a page below the root
+  on_page_names : (lock : Stops) (alias : Bool) (moderation : Stops) (needs : List (Option ℕ)) →
+      front_by part caller (on_page page lock alias moderation) needs ≡ None →
+      IsBelow part.tree page
+  on_page_names lock alias moderation needs none =
+      let parts = front_parts part caller (on_page page lock alias moderation) needs none in
+      record {
+        there = (page_found part.tree page [] parts.pages).0;
+        below = λ same. below_root page parts.below (sym same);
+      }
+
+  -- so it is of these commands
+  pub open_names : front_rules part caller (commands.OpenDesk page) ≡ None → IsBelow part.tree page
+  unfolding front_rules row_of
+  open_names =
+      on_page_names StopsOthers true StopsOthers (needs_of part caller (commands.OpenDesk page))
+
+  pub publish_names : front_rules part caller (commands.Publish page) ≡ None → IsBelow part.tree page
+  unfolding front_rules row_of
+  publish_names =
+      on_page_names StopsOthers true StopsOthers (needs_of part caller (commands.Publish page))
+
+  pub unpublish_names : front_rules part caller (commands.Unpublish page) ≡ None →
+      IsBelow part.tree page
+  unfolding front_rules row_of
+  unpublish_names =
+      on_page_names StopsOthers true StopsNobody (needs_of part caller (commands.Unpublish page))
+
+  pub lock_names : front_rules part caller (commands.Lock page) ≡ None → IsBelow part.tree page
+  unfolding front_rules row_of
+  lock_names =
+      on_page_names StopsEveryone true StopsNobody (needs_of part caller (commands.Lock page))
+
+  pub unlock_names : front_rules part caller (commands.Unlock page) ≡ None → IsBelow part.tree page
+  unfolding front_rules row_of
+  unlock_names =
+      on_page_names StopsNobody false StopsNobody (needs_of part caller (commands.Unlock page))
+
+  pub purge_names : front_rules part caller (commands.Purge page) ≡ None → IsBelow part.tree page
+  unfolding front_rules row_of
+  purge_names =
+      on_page_names StopsOthers true StopsNobody (needs_of part caller (commands.Purge page))
+
+-- a page that is there is kept
+pub kept_there : (page : ℕ) (tree : Forest Body) → has_page page tree ≡ true →
+    (body : Body) × (body_of tree page ≡ Some body)
+kept_there page tree there =
+    let node = node_found page tree (has_counts page tree there) in
+    (node.body, ap (λ (f : Forest Body). first_body f) node.is)
+
+-- so it is not missing
+pub not_missing : (page : ℕ) (tree : Forest Body) → has_page page tree ≡ true →
+    None ≡ body_of tree page → ⊥
+not_missing page tree there none =
+    let kept = kept_there page tree there in
+    let no : ◌≡◌ {A = Option Body} None (Some kept.0) = none ∙ kept.1 in
+    cc
+
+-- the same, found twice
+pub same_body : (one other : Body) → ◌≡◌ {A = Option Body} (Some one) (Some other) → one ≡ other
+same_body one other is = cc
+
+-- what holds of each page holds of the first
+pub first_has : (P : ℕ → Body → Type 0) (page : ℕ) (tree : Forest Body) (body : Body) →
+    AllPages (λ id slug one. P id one) tree → has_page page tree ≡ true →
+    body_of tree page ≡ Some body → P page body
+first_has P page tree body all there found =
+    let node = node_found page tree (has_counts page tree there) in
+    let one = (subst (λ (f : Forest Body). AllPages (λ id slug own. P id own) f) node.is
+    (AllPages-node_of (λ id slug own. P id own) page tree all)).0 in
+    subst (λ (own : Body). P page own)
+    (same_body node.body body (sym (ap (λ (f : Forest Body). first_body f) node.is) ∙ found)) one
+
+-- a revision of a page is found by its id
+own_found : (revisions : List Revision) (page id : ℕ) →
+    list_any (λ (revision : Revision). nat_eq revision.id id && nat_eq revision.page page) revisions
+    ≡ true → revision_with id revisions ≡ None → ⊥
+own_found [] page id own none = cc
+own_found (revision ∷ revisions) page id own none =
+    by (nat_eq revision.id id) (nat_eq revision.page page) own none
+    (own_found revisions page id)
+  where
+    by : (same paged : Bool) →
+        ((same && paged) || list_any
+        (λ (one : Revision). nat_eq one.id id && nat_eq one.page page) revisions) ≡ true →
+        (cond same (Some revision) (revision_with id revisions)) ≡ None →
+        (list_any (λ (one : Revision). nat_eq one.id id && nat_eq one.page page) revisions ≡ true →
+        revision_with id revisions ≡ None → ⊥) → ⊥
+    by true paged is missing later = cc
+    by false paged is missing later = later is missing
+
+-- a revision of a page that is named is not missing
+named_found : (revisions : List Revision) (page : ℕ) (latest : Option ℕ) →
+    is_own revisions page latest ≡ true →
+    option_and_then (λ (id : ℕ). revision_with id revisions) latest ≡ None → ⊥
+named_found revisions page None own none = cc
+named_found revisions page (Some id) own none = own_found revisions page id own none
+
+-- a page below the root has a latest revision
+pub latest_there : (part : worlds.TreePart) (page : ℕ) → IsReachedPart part →
+    IsBelow part.tree page → None ≡ latest_of part page → ⊥
+latest_there part page reached below none =
+    let there = kept_there page part.tree below.there in
+    let body = there.0 in
+    let found = there.1 in
+    let kept = first_has (IsBody part.revisions part.next_user part.next_workflow part.workflows)
+    page part.tree body reached.sound.bodies.bodies below.there found in
+    let source = first_has (λ id own. own.source ≡ None) page part.tree body reached.none_yet.no_alias
+    below.there found in
+    let own = kept.regular below.below source in
+    let at : latest_of part page
+    ≡ option_and_then (λ (id : ℕ). revision_with id part.revisions) body.latest = rw found refl in
+    named_found part.revisions page body.latest own.latest (sym at ∙ sym none)
+
+-- it is not moderated
+pub not_moderated : (part : worlds.TreePart) (page : ℕ) (body : Body) → IsReachedPart part →
+    IsBelow part.tree page → body_of part.tree page ≡ Some body → body.moderation ≡ None
+not_moderated part page body reached below found =
+    first_has (λ id own. own.moderation ≡ None) page part.tree body reached.none_yet.no_moderation
+    below.there found

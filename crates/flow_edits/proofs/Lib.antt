@@ -1,0 +1,13 @@
+pub mod BodyRows
+pub mod Steps
+pub mod Planned
+pub mod Facts
+pub mod PublishPlans
+pub mod LockPlans
+pub mod PurgePlans
+pub mod Counting
+pub mod OpenPlans
+pub mod FilePlans
+pub mod PeoplePlans
+pub mod JoiningPlans
+pub mod PeopleRights

@@ -1,0 +1,208 @@
+-- Publishing and unpublishing: what is refused, and what is planned.
+use Rattle.std.proofs.Common.{◌≡◌, ◌||◌, ℕ, Bool, true, false, cond, List, [], Option, Some, None, Result, Ok, Err, refl, sym, ap, subst, ◌∙◌}
+use Rattle.std.specs.Option.{option_or}
+use Rattle.site_types.specs.Content.{ContentValue}
+use Rattle.site_types.specs.declared.body.Body.{Body}
+use Rattle.site_types.specs.declared.command.Command.TheVariants as commands
+use Rattle.site_types.specs.declared.moderation.Moderation.{Moderation}
+use Rattle.site_types.specs.declared.refusal.Refusal.TheVariants.{NothingNew, NotLive, AlreadyExpired}
+use Rattle.site_types.specs.declared.reply.Reply.TheVariants as replies
+use Rattle.site_types.specs.declared.revision.Revision.{Revision}
+use Rattle.site_model.specs.World as worlds
+use Rattle.site_model.specs.Bodies.{rebodied, is_after, latest_of}
+use Rattle.site_model.specs.Losing.{suspects_of, shuts}
+use Rattle.site_model.specs.Moderations.{after_publishing}
+use Rattle.site_model.specs.Publishing.{published_body, has_expired, expires_first, is_out, publish_rules, publish, unpublish_rules, unpublish}
+use Rattle.site_model.specs.Step.{rules, step_by}
+use Rattle.site_model.specs.Step as steps
+use Rattle.site_model.specs.Views.{body_of}
+use Rattle.site_model.proofs.LosingEnds.{ends_none}
+use Rattle.site_model.proofs.LosingFacts.{publish_ends_none}
+use Rattle.flat_model.specs.Single.{body_change}
+use Rattle.grants.specs.Plans.{Prepares, HasPlan}
+use Rattle.grants.specs.declared.fault.Fault.{Fault}
+use Rattle.grants.specs.declared.part.TreePart.{TreePart}
+use Rattle.grants.specs.declared.plan.Plan.{Plan}
+use Rattle.grants.proofs.StepLemmas.{own_refuses}
+use Rattle.flow_edits.specs.Asked.{IsAsked}
+use Rattle.flow_edits.specs.Plans.{ending_plan, Plans}
+use Rattle.flow_edits.proofs.Facts.{publish_names, not_moderated}
+use Rattle.flow_edits.proofs.Planned.{prepared, body_planned, fields_same}
+use Rattle.flow_edits.proofs.Steps.{none_end, ends_step}
+
+-- without a moderation there is none afterwards
+still_none : (moderation : Option Moderation) → moderation ≡ None →
+    after_publishing moderation ≡ moderation
+still_none moderation is = ap after_publishing is ∙ sym is
+
+-- a page that is not moderated has the fields that publishing gives it
+published_same : (moment : ℕ) (revision : Revision) (body : Body) → body.moderation ≡ None →
+    record (published_body moment revision body) { moderation = after_publishing body.moderation }
+    ≡ published_body moment revision body
+published_same moment revision body none = choice (is_after moment revision.go_live)
+  where
+    choice : (t : Bool) →
+        record (cond t (record body { scheduled = Some revision.id }) (record body {
+          live = true;
+          expired = false;
+          shown = Some revision.id;
+          scheduled = None;
+          first_published = option_or body.first_published (Some moment);
+          last_published = Some moment;
+        })) { moderation = after_publishing body.moderation }
+        ≡ cond t (record body { scheduled = Some revision.id }) (record body {
+          live = true;
+          expired = false;
+          shown = Some revision.id;
+          scheduled = None;
+          first_published = option_or body.first_published (Some moment);
+          last_published = Some moment;
+        })
+    choice true =
+        ap (λ (m : Option Moderation). record body { scheduled = Some revision.id; moderation = m })
+        (still_none body.moderation none)
+    choice false =
+        ap (λ (m : Option Moderation). record body {
+          live = true;
+          expired = false;
+          shown = Some revision.id;
+          scheduled = None;
+          first_published = option_or body.first_published (Some moment);
+          last_published = Some moment;
+          moderation = m;
+        }) (still_none body.moderation none)
+
+module _ (kept : TreePart) (part : worlds.TreePart) (desk : Option ContentValue)
+    (now caller page : ℕ) (asked : IsAsked kept part desk caller (commands.Publish page))
+    (body : Body) (found : body_of part.tree page ≡ Some body) (revision : Revision)
+    (latest : latest_of part page ≡ Some revision) (time : ℕ)
+    (time_is : time ≡ worlds.time_at part now) where
+  -- the command's own rules, and what it does
+  publish_own : rules part desk now caller (commands.Publish page)
+      ≡ publish_rules part now page (Some revision)
+  unfolding rules
+  publish_own = ap (publish_rules part now page) latest
+
+  publish_done : steps.effect part desk now caller (commands.Publish page)
+      ≡ publish part now page (Some revision)
+  unfolding steps.effect
+  publish_done = ap (publish part now page) latest
+
+  -- whether it is so already, at the world's moment
+  out_is : (t : Bool) → is_out time revision body ≡ t →
+      is_out (worlds.time_at part now) revision body ≡ t
+  out_is t is = ap (λ (m : ℕ). is_out m revision body) (sym time_is) ∙ is
+
+  -- whether it is too late, at the world's moment
+  late_is : (t : Bool) → (has_expired time revision || expires_first revision) ≡ t →
+      (has_expired (worlds.time_at part now) revision || expires_first revision) ≡ t
+  late_is t is =
+      ap (λ (m : ℕ). has_expired m revision || expires_first revision) (sym time_is) ∙ is
+
+  -- it is so already
+  pub publish_known : is_out time revision body ≡ true →
+      step_by part desk now caller (commands.Publish page) ≡ Err NothingNew
+  publish_known is =
+      own_refuses part desk now caller (commands.Publish page) NothingNew asked.front refl
+      (publish_own ∙ rw (found, out_is true is) refl)
+
+  -- its latest revision has expired
+  pub publish_late : is_out time revision body ≡ false →
+      (has_expired time revision || expires_first revision) ≡ true →
+      step_by part desk now caller (commands.Publish page) ≡ Err AlreadyExpired
+  publish_late new is =
+      own_refuses part desk now caller (commands.Publish page) AlreadyExpired asked.front refl
+      (publish_own ∙ rw (found, out_is false new, late_is true is) refl)
+
+  -- its plan
+  publish_plans : is_out time revision body ≡ false →
+      (has_expired time revision || expires_first revision) ≡ false →
+      HasPlan kept part desk now caller (commands.Publish page)
+      (ending_plan (replies.Published (is_after time revision.go_live)) []
+      (body_change page (published_body time revision body) time kept.next_page kept.next_revision))
+  publish_plans new fresh_till =
+      let moment = worlds.time_at part now in
+      let ready = asked.given.ready in
+      let change : Body → Body = λ (one : Body). record (published_body moment revision one) {
+        moderation = after_publishing one.moderation;
+      } in
+      let reply = replies.Published (is_after moment revision.go_live) in
+      let unmoderated = not_moderated part page body ready.reached
+      (publish_names part caller page asked.front) found in
+      subst (λ (m : ℕ). HasPlan kept part desk now caller (commands.Publish page)
+      (ending_plan (replies.Published (is_after m revision.go_live)) []
+      (body_change page (published_body m revision body) m kept.next_page kept.next_revision)))
+      (sym time_is)
+      (body_planned (commands.Publish page) kept part desk now caller page reply [] change body
+      (published_body moment revision body) moment kept.next_page kept.next_revision ready found
+      (published_same moment revision body unmoderated) refl ready.stands.next_page
+      ready.stands.next_revision
+      (ends_step part desk now caller (commands.Publish page)
+      (record part { time = moment; tree = rebodied page change part.tree }) reply false asked.front
+      refl (publish_own ∙ rw (found, out_is false new, late_is false fresh_till) refl) publish_done
+      refl []
+      (λ left told is. publish_ends_none part left told desk now caller page ready.reached.sound
+      ready.reached.none_yet.no_moderation is) (none_end part.desk_pairs)))
+
+  -- what is told of it
+  pub publish_prepared : is_out time revision body ≡ false →
+      (has_expired time revision || expires_first revision) ≡ false → (waits : Bool) (new : Body)
+      (shut : List ℕ) → waits ≡ is_after time revision.go_live →
+      new ≡ published_body time revision body → shut ≡ [] → (result : Result Plan Fault) →
+      Plans (ending_plan (replies.Published waits) shut
+      (body_change page new time kept.next_page kept.next_revision)) result →
+      Prepares part desk now caller (commands.Publish page) kept result
+  publish_prepared fresh still waits new shut waits_is new_is shut_is result is =
+      prepared (commands.Publish page) kept part desk now caller _ _ result
+      (fields_same (replies.Published waits) (replies.Published (is_after time revision.go_live)) shut
+      [] page new (published_body time revision body) time kept.next_page kept.next_revision
+      (ap replies.Published waits_is) shut_is new_is) (publish_plans fresh still) is
+
+module _ (kept : TreePart) (part : worlds.TreePart) (desk : Option ContentValue)
+    (now caller page : ℕ) (asked : IsAsked kept part desk caller (commands.Unpublish page))
+    (body : Body) (found : body_of part.tree page ≡ Some body) where
+  -- the command's own rules, and what it does
+  unpublish_own : rules part desk now caller (commands.Unpublish page) ≡ unpublish_rules part page
+  unfolding rules
+  unpublish_own = refl
+
+  unpublish_done : steps.effect part desk now caller (commands.Unpublish page)
+      ≡ unpublish part now page
+  unfolding steps.effect
+  unpublish_done = refl
+
+  -- it ends no desk
+  unpublish_ends : (left : worlds.TreePart) (told : worlds.Effect) →
+      step_by part desk now caller (commands.Unpublish page) ≡ Ok (left, told) → told.ended ≡ []
+  unfolding suspects_of shuts
+  unpublish_ends left told is =
+      ends_none part left told desk now caller (commands.Unpublish page)
+      asked.given.ready.reached.sound refl refl is
+
+  -- a page that is not live
+  pub unpublish_dead : body.live ≡ false →
+      step_by part desk now caller (commands.Unpublish page) ≡ Err NotLive
+  unpublish_dead is =
+      own_refuses part desk now caller (commands.Unpublish page) NotLive asked.front refl
+      (unpublish_own ∙ rw (found, is) refl)
+
+  -- what is told of one that is
+  pub unpublish_prepared : body.live ≡ true → (time : ℕ) → time ≡ worlds.time_at part now →
+      (new : Body) (shut : List ℕ) → new ≡ record body { live = false; scheduled = None } →
+      shut ≡ [] → (result : Result Plan Fault) →
+      Plans (ending_plan replies.Done shut
+      (body_change page new time kept.next_page kept.next_revision)) result →
+      Prepares part desk now caller (commands.Unpublish page) kept result
+  unpublish_prepared live time time_is new shut new_is shut_is result is =
+      let ready = asked.given.ready in
+      let change : Body → Body = λ (one : Body). record one { live = false; scheduled = None } in
+      prepared (commands.Unpublish page) kept part desk now caller _ _ result
+      (fields_same replies.Done replies.Done shut [] page new (change body) time kept.next_page
+      kept.next_revision refl shut_is new_is)
+      (body_planned (commands.Unpublish page) kept part desk now caller page replies.Done [] change
+      body (change body) time kept.next_page kept.next_revision ready found refl time_is
+      ready.stands.next_page ready.stands.next_revision
+      (ends_step part desk now caller (commands.Unpublish page)
+      (record part { time = worlds.time_at part now; tree = rebodied page change part.tree })
+      replies.Done false asked.front refl (unpublish_own ∙ rw (found, live) refl) unpublish_done refl
+      [] unpublish_ends (none_end part.desk_pairs))) is

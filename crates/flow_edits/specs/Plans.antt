@@ -1,0 +1,92 @@
+-- What is planned: plans that end desks, and what a purge takes.
+use Rattle.std.specs.Prelude.{◌≡◌, ℕ, ◌+◌, Bool, ◌==◌, ◌&&◌, not, List, [], ◌∷◌, filter, Option, Some, None, Result, Ok, Err, if◌then◌else◌}
+use Rattle.site_types.specs.Content.{ContentValue}
+use Rattle.site_types.specs.declared.body.Body.{Body}
+use Rattle.site_types.specs.declared.refusal.Refusal.{Refusal}
+use Rattle.site_types.specs.declared.reply.Reply.{Reply}
+use Rattle.site_types.specs.declared.reply.Reply.TheVariants.{Done, Id}
+use Rattle.site_types.specs.declared.revision.Revision.{Revision}
+use Rattle.site_model.specs.Publishing.{moderated_revision}
+use Rattle.flat_model.specs.Made.{needs_revision}
+use Rattle.flat_model.specs.Single.{tree_change, body_change}
+use Rattle.flat_model.specs.declared.change.Change.{Change}
+use Rattle.flat_model.specs.declared.change.Purge.{Purge}
+use Rattle.flat_model.specs.declared.change.TreeChange.TheVariants.{Nothing}
+use Rattle.grants.specs.Plans.{quiet_plan}
+use Rattle.grants.specs.declared.fault.Fault.{Fault}
+use Rattle.grants.specs.declared.fault.Fault.TheVariants.{Refused, Memory}
+use Rattle.grants.specs.declared.plan.Plan.{Plan}
+
+-- a plan that opens no desk, and ends those on these pages
+abbrev pub ending_plan : Reply → List ℕ → Change → Plan
+ending_plan reply shut change = record (quiet_plan reply change) { shut = shut }
+
+-- this plan, unless memory ran out
+abbrev pub Plans : Plan → Result Plan Fault → Type 0
+Plans plan (Ok made) = made ≡ plan
+Plans plan (Err fault) = fault ≡ Memory
+
+-- the purge of a page of which this is kept
+abbrev pub purge_of : ℕ → Body → Purge
+purge_of page body =
+    record {
+      page = page;
+      shown = body.shown;
+      latest = body.latest;
+      scheduled = body.scheduled;
+      moderated = moderated_revision body.moderation;
+    }
+
+-- whether a purge takes a revision
+abbrev pub is_taken : Purge → Revision → Bool
+is_taken purge revision = (revision.page == purge.page) && not (needs_revision purge revision.id)
+
+-- the revisions that a purge takes
+abbrev pub taken : Purge → List Revision → List Revision
+taken purge revisions = filter (is_taken purge) revisions
+
+-- 1 where there is a revision that a purge takes
+abbrev pub counted : Purge → Option Revision → ℕ
+counted purge None = 0
+counted purge (Some revision) = if is_taken purge revision then 1 else 0
+
+-- What is told by what rules refuse: something right only where none refuses, and a refusal exactly
+-- as the rules say. Out of memory tells nothing.
+abbrev pub Tells : {Told : Type 0} → Option Refusal → (Told → Type 0) → Result Told Fault → Type 0
+Tells refused IsRight (Ok told) = (refused ≡ None) × IsRight told
+Tells refused IsRight (Err (Refused refusal)) = refused ≡ Some refusal
+Tells refused IsRight (Err Memory) = Unit {0}
+
+-- the plan of a desk that is opened
+abbrev pub opening_plan : ℕ → ℕ → ContentValue → ℕ → ℕ → ℕ → Plan
+opening_plan page user text time next_page next_revision =
+    record (quiet_plan Done (tree_change Nothing time next_page next_revision)) {
+      opened = Some (page, user, text);
+    }
+
+-- a revision, by its parts
+abbrev pub revision_of : ℕ → ℕ → ℕ → ℕ → ContentValue → Option ℕ → Option ℕ → Revision
+revision_of id page by made content go_live expire =
+    record {
+      id = id;
+      page = page;
+      by = by;
+      made = made;
+      content = content;
+      go_live = go_live;
+      expire = expire;
+    }
+
+-- what is kept of a page whose text was filed with this revision
+abbrev pub filed_body : Body → ℕ → Body
+filed_body body revision = record body { latest = Some revision }
+
+-- the plan of a text that is filed: a revision comes, the page has it as its latest, and the desk
+-- ends
+abbrev pub filing_plan : Revision → Body → ℕ → Plan
+filing_plan revision body next_page =
+    ending_plan (Id revision.id) (revision.page ∷ [])
+    (record (body_change revision.page (filed_body body revision.id) revision.made next_page
+    (revision.id + 1)) {
+      revisions = revision ∷ [];
+    })

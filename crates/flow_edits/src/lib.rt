@@ -1,0 +1,15 @@
+//! Plans of the commands on drafts, publishing, locks and revisions, and of those on users, groups,
+//! memberships and grants.
+#![tactic(auto)]
+
+mod filing;
+mod joining;
+mod locking;
+mod opening;
+mod people;
+mod prepare;
+mod publishing;
+mod purging;
+mod telling;
+
+pub use prepare::prepare_flow;

@@ -1,11 +1,12 @@
 -- The groups that commands are prepared in.
-use Rattle.std.proofs.Common.{◌≡◌, ℕ, Bool, true, false, List, refl}
+use Rattle.std.proofs.Common.{◌≡◌, ℕ, true, false, None, refl}
+use Rattle.site_types.specs.Content.{ContentValue}
 use Rattle.site_types.specs.declared.command.Command.{Command}
 use Rattle.site_types.specs.declared.command.Command.TheVariants as commands
-use Rattle.site_types.specs.declared.permission.Permission.{Permission}
-use Rattle.site_model.specs.Step.{is_built}
+use Rattle.site_model.specs.Step.{is_built, saving}
 use Rattle.site_core.specs.Groups.{group_of}
 use Rattle.site_core.specs.declared.group.Group.TheVariants as groups
+use Rattle.flow_edits.specs.Asked.{is_flow}
 use Rattle.tree_edits.specs.Plans.{is_on_tree}
 
 -- a command that is prepared with those that are not built is not built
@@ -15,6 +16,15 @@ later_unbuilt (commands.Create parent slug content) is = absurd (cc)
 later_unbuilt (commands.Move page target position) is = absurd (cc)
 later_unbuilt (commands.Delete page) is = absurd (cc)
 later_unbuilt (commands.SetSlug page slug) is = absurd (cc)
+later_unbuilt (commands.SaveDesk page content) is = absurd (cc)
+later_unbuilt (commands.OpenDesk page) is = absurd (cc)
+later_unbuilt (commands.ShutDesk page) is = absurd (cc)
+later_unbuilt (commands.File page go_live expire) is = absurd (cc)
+later_unbuilt (commands.Publish page) is = absurd (cc)
+later_unbuilt (commands.Unpublish page) is = absurd (cc)
+later_unbuilt (commands.Lock page) is = absurd (cc)
+later_unbuilt (commands.Unlock page) is = absurd (cc)
+later_unbuilt (commands.Purge page) is = absurd (cc)
 later_unbuilt (commands.DefineUser superuser digest) is = absurd (cc)
 later_unbuilt commands.DefineGroup is = absurd (cc)
 later_unbuilt (commands.Member user group on) is = absurd (cc)
@@ -30,15 +40,34 @@ tree_grouped (commands.Delete page) is = refl
 tree_grouped (commands.SetSlug page slug) is = refl
 tree_grouped _ is = absurd (cc)
 
--- the commands on users and groups are four
-pub people_only : (command : Command) → group_of command ≡ groups.People →
-    ((superuser : Bool) (digest : List ℕ) → command ≡ commands.DefineUser superuser digest → ⊥) →
-    (command ≡ commands.DefineGroup → ⊥) →
-    ((user group : ℕ) (on : Bool) → command ≡ commands.Member user group on → ⊥) →
-    ((group page : ℕ) (permission : Permission) (on : Bool) →
-    command ≡ commands.Grant group page permission on → ⊥) → ⊥
-people_only (commands.DefineUser superuser digest) is u g m t = u superuser digest refl
-people_only commands.DefineGroup is u g m t = g refl
-people_only (commands.Member user group on) is u g m t = m user group on refl
-people_only (commands.Grant group page permission on) is u g m t = t group page permission on refl
-people_only _ is u g m t = absurd (cc)
+-- a command that is prepared with those on drafts, publishing and people is one of them
+pub flow_grouped : (command : Command) → group_of command ≡ groups.Flow →
+    is_flow command ≡ true
+flow_grouped (commands.OpenDesk page) is = refl
+flow_grouped (commands.ShutDesk page) is = refl
+flow_grouped (commands.File page go_live expire) is = refl
+flow_grouped (commands.Publish page) is = refl
+flow_grouped (commands.Unpublish page) is = refl
+flow_grouped (commands.Lock page) is = refl
+flow_grouped (commands.Unlock page) is = refl
+flow_grouped (commands.Purge page) is = refl
+flow_grouped (commands.DefineUser superuser digest) is = refl
+flow_grouped commands.DefineGroup is = refl
+flow_grouped (commands.Member user group on) is = refl
+flow_grouped (commands.Grant group page permission on) is = refl
+flow_grouped _ is = absurd (cc)
+
+-- the command that saves a desk saves one
+pub save_grouped : (command : Command) → group_of command ≡ groups.Save →
+    saving command ≡ None → ⊥
+unfolding saving
+save_grouped (commands.SaveDesk page content) is none = cc
+save_grouped _ is none = absurd (cc)
+
+-- no other does
+pub saves_none : (command : Command) →
+    ((page : ℕ) (content : ContentValue) → command ≡ commands.SaveDesk page content → ⊥) →
+    saving command ≡ None
+unfolding saving
+saves_none (commands.SaveDesk page content) other = absurd (other page content refl)
+saves_none _ other = refl

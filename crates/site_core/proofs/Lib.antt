@@ -1,10 +1,13 @@
 pub mod CardLemmas
 pub mod LookUpLemmas
 pub mod FindLemmas
+pub mod KidLemmas
 pub mod SlugRows
 pub mod DropLemmas
+pub mod PurgeLemmas
 pub mod MoveCall
 pub mod GroupLemmas
+pub mod PartLemmas
+pub mod KeptLemmas
+pub mod StepDesks
 pub mod PrepareLemmas
-pub mod PeoplePlans
-pub mod PeopleRights

@@ -7,4 +7,5 @@ use Rattle.site_core.specs.declared.done.Done.{Done}
 pub record TellsPlan (plan : Plan) (done : Done) : Type 0 where
   pub reply : done.reply ≡ plan.reply
   pub opened : done.opened ≡ plan.opened
+  pub saved : done.saved ≡ plan.saved
   pub shut : done.shut ≡ plan.shut

@@ -4,7 +4,8 @@ use Rattle.site_types.specs.declared.command.Command.TheVariants as commands
 use Rattle.site_core.specs.declared.group.Group.{Group}
 use Rattle.site_core.specs.declared.group.Group.TheVariants as kinds
 
--- the group of a command: those on the tree, those on users and groups, and those that are not built
+-- the group of a command: those on the tree; those on drafts, publishing and people; the one that saves
+-- a desk; and those that are not built
 abbrev pub group_of : Command → Group
 group_of (commands.Create parent slug content) = kinds.Tree
 group_of (commands.Move page target position) = kinds.Tree
@@ -13,16 +14,16 @@ group_of (commands.SetSlug page slug) = kinds.Tree
 group_of (commands.Alias source parent slug) = kinds.Later
 group_of (commands.Detach page) = kinds.Later
 group_of (commands.Copy page parent slug deep) = kinds.Later
-group_of (commands.OpenDesk page) = kinds.Later
-group_of (commands.SaveDesk page content) = kinds.Later
-group_of (commands.ShutDesk page) = kinds.Later
-group_of (commands.File page go_live expire) = kinds.Later
-group_of (commands.Publish page) = kinds.Later
-group_of (commands.Unpublish page) = kinds.Later
+group_of (commands.OpenDesk page) = kinds.Flow
+group_of (commands.SaveDesk page content) = kinds.Save
+group_of (commands.ShutDesk page) = kinds.Flow
+group_of (commands.File page go_live expire) = kinds.Flow
+group_of (commands.Publish page) = kinds.Flow
+group_of (commands.Unpublish page) = kinds.Flow
 group_of (commands.Unschedule page) = kinds.Later
-group_of (commands.Lock page) = kinds.Later
-group_of (commands.Unlock page) = kinds.Later
-group_of (commands.Purge page) = kinds.Later
+group_of (commands.Lock page) = kinds.Flow
+group_of (commands.Unlock page) = kinds.Flow
+group_of (commands.Purge page) = kinds.Flow
 group_of (commands.DefineTask groups) = kinds.Later
 group_of (commands.DefineWorkflow tasks) = kinds.Later
 group_of (commands.Assign page workflow) = kinds.Later
@@ -30,8 +31,8 @@ group_of (commands.Submit page) = kinds.Later
 group_of (commands.Approve page) = kinds.Later
 group_of (commands.Reject page) = kinds.Later
 group_of (commands.Cancel page) = kinds.Later
-group_of (commands.DefineUser superuser digest) = kinds.People
-group_of commands.DefineGroup = kinds.People
-group_of (commands.Member user group on) = kinds.People
-group_of (commands.Grant group page permission on) = kinds.People
+group_of (commands.DefineUser superuser digest) = kinds.Flow
+group_of commands.DefineGroup = kinds.Flow
+group_of (commands.Member user group on) = kinds.Flow
+group_of (commands.Grant group page permission on) = kinds.Flow
 group_of commands.Tick = kinds.Later

@@ -1,5 +1,7 @@
 pub mod Ending
 pub mod Finding
 pub mod Groups
-pub mod People
+pub mod Kids
+pub mod Purging
+pub mod Texts
 pub mod Standing

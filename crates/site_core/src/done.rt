@@ -8,6 +8,8 @@ pub struct Done {
     pub reply: Reply,
     /// The desk that it opens: its page, its user and its text.
     pub opened: Option<(PageId, UserId, Content)>,
+    /// The text that is saved: the page and the user of its desk, and the text.
+    pub saved: Option<(PageId, UserId, Content)>,
     /// The pages whose desks end, rising.
     pub shut: Ids,
 }

@@ -31,7 +31,7 @@ pub(crate) fn find_live(rows: &Rows, url: &[u8]) -> Option<PageId>
 }
 
 /// Whether a page that is there is live: an alias is live where its source is.
-fn is_live(rows: &Rows, page: PageId) -> bool
+pub(crate) fn is_live(rows: &Rows, page: PageId) -> bool
     ensures { (tree : Forest PageBody) (row : Row PageBody) → rows.now.pages ≡ rows_of tree
         → row_with page rows.now.pages ≡ Some row → result ≡ views.is_live tree row.body }
 {

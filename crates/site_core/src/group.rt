@@ -9,8 +9,10 @@ use site_types::Command;
 pub(crate) enum Group {
     /// Those on the tree.
     Tree,
-    /// Those on users, groups, memberships and grants.
-    People,
+    /// Those on drafts, publishing, locks and revisions, and on users, groups and rights.
+    Flow,
+    /// The one that saves a desk.
+    Save,
     /// Those that are not built.
     Later,
 }
@@ -24,23 +26,23 @@ pub(crate) fn group_of(command: &Command) -> Group
         | Command::Move { .. }
         | Command::Delete { .. }
         | Command::SetSlug { .. } => Group::Tree,
-        Command::DefineUser { .. }
-        | Command::DefineGroup
-        | Command::Member { .. }
-        | Command::Grant { .. } => Group::People,
-        Command::Alias { .. }
-        | Command::Detach { .. }
-        | Command::Copy { .. }
-        | Command::OpenDesk { .. }
-        | Command::SaveDesk { .. }
+        Command::OpenDesk { .. }
         | Command::ShutDesk { .. }
         | Command::File { .. }
         | Command::Publish { .. }
         | Command::Unpublish { .. }
-        | Command::Unschedule { .. }
         | Command::Lock { .. }
         | Command::Unlock { .. }
         | Command::Purge { .. }
+        | Command::DefineUser { .. }
+        | Command::DefineGroup
+        | Command::Member { .. }
+        | Command::Grant { .. } => Group::Flow,
+        Command::SaveDesk { .. } => Group::Save,
+        Command::Alias { .. }
+        | Command::Detach { .. }
+        | Command::Copy { .. }
+        | Command::Unschedule { .. }
         | Command::DefineTask { .. }
         | Command::DefineWorkflow { .. }
         | Command::Assign { .. }

@@ -1,12 +1,12 @@
 //! Changes, made store by store.
-ghost use Rattle.std.specs.Prelude.{◌≡◌};
+ghost use Rattle.std.specs.Prelude.{◌≡◌, ◌≤◌, length};
 ghost use Rattle.flat_model.specs.Fits.{Fits};
 ghost use Rattle.flat_model.specs.Made.{made};
-ghost use Rattle.grants.specs.Plans.{HasRoom};
+ghost use Rattle.grants.specs.Plans.{rows_needed, people_needed};
 ghost use Rattle.grants.specs.Standing.{seen};
 
 use crate::bodies::put_bodies;
-use crate::going::{drop_grants, drop_revisions};
+use crate::going::{drop_grants, put_purge};
 use crate::people_change::put_people;
 use crate::revisions::put_revisions;
 use crate::tree::put_tree;
@@ -18,13 +18,17 @@ use grants::{Change, TreePart};
 /// path or URL, and for each revision that comes or goes.
 pub(crate) fn make(part: &mut TreePart, change: Change)
     requires fits { Fits (seen part.old) change }
-    requires room { HasRoom part.old change }
-    ensures { seen part.new ≡ made change (seen part.old) }
+    requires rows { rows_needed change.tree ≤ part.old.rows.spare }
+    requires revisions { length change.revisions ≤ part.old.shelf.spare }
+    requires people { people_needed change.people ≤ part.old.grants.spare }
+    ensures made { seen part.new ≡ made change (seen part.old) }
+    ensures desks { part.new.desk_pairs ≡ part.old.desk_pairs }
 {
     let Change {
         tree,
         bodies,
         gone,
+        purge,
         revisions,
         people,
         time,
@@ -33,8 +37,9 @@ pub(crate) fn make(part: &mut TreePart, change: Change)
     } = change;
     put_tree(&mut part.rows, tree);
     put_bodies(&mut part.rows, bodies);
-    drop_revisions(&mut part.shelf, gone.as_slice());
+    part.shelf.drop_pages(gone.as_slice());
     drop_grants(&mut part.grants, gone.as_slice());
+    put_purge(&mut part.shelf, purge);
     put_revisions(&mut part.shelf, revisions);
     put_people(&mut part.grants, people);
     part.time = time;

@@ -1,42 +1,56 @@
-//! The cards of pages.
-ghost use Rattle.std.specs.Prelude.{◌≡◌, IfOk, option_and_then};
+//! The cards of pages, and what pages show.
+ghost use Rattle.std.specs.Prelude.{◌≡◌, IfOk};
 ghost use Rattle.std.specs.Option.{option_copied};
+ghost use Rattle.page_tree.specs.Rows.{rows_of};
 ghost use Rattle.site_model.specs.World.{World};
-ghost use Rattle.sight_model.specs.Cards.{card_of, revision_with};
-ghost use Rattle.grants.specs.Standing.{StandsFor};
+ghost use Rattle.sight_model.specs.Cards.{card_of};
+ghost use Rattle.site_core.specs.Kids.{shown_of};
 
-use crate::card::make_card;
-use grants::TreePart;
+use crate::card::{find_shown, make_card};
+use crate::kids::live_kids;
+use page_store::Rows;
 use public_view::Card;
 use revision_shelf::Shelf;
-use site_types::{NoMemory, PageId, Revision, RevisionId};
+use site_types::{Content, NoMemory, PageId};
 use std::alloc::Global;
 
 /// The card of a page, or `None` exactly where there is no such page.
 ///
-/// It costs three look-ups, and copies what the card tells.
-pub(crate) fn card_in(alloc: Global, part: &TreePart, id: PageId) -> Result<Option<Card>, NoMemory>
-    ensures { (world : World) → StandsFor part.now world.part
+/// It costs three look-ups, and a few for each of its first kids; it copies what the card tells.
+pub(crate) fn card_in(
+    alloc: Global,
+    rows: &Rows,
+    shelf: &Shelf,
+    id: PageId,
+) -> Result<Option<Card>, NoMemory>
+    ensures { (world : World) → rows.now.pages ≡ rows_of world.part.tree
+        → shelf.now.revisions ≡ world.part.revisions
         → IfOk result (λ card. card ≡ card_of world id) }
 {
-    let Some(row) = part.rows.row(id) else {
+    let Some(row) = rows.row(id) else {
         return Ok(None);
     };
-    let Some(url) = part.rows.url(id) else {
+    let Some(url) = rows.url(id) else {
         unreachable!()
     };
-    let shown = find_shown(&part.shelf, row.body.shown);
-    let card = make_card(alloc, row, url, shown)?;
+    let shown = find_shown(shelf, row.body.shown);
+    let kids = live_kids(alloc, rows, shelf, id)?;
+    let card = make_card(alloc, row, url, shown, kids)?;
     Ok(Some(card))
 }
 
-/// The revision that a page shows, where it shows one. One look-up.
-fn find_shown(shelf: &Shelf, shown: Option<RevisionId>) -> Option<&Revision>
-    ensures { option_copied result
-        ≡ option_and_then (λ id. revision_with id shelf.now.revisions) shown }
+/// The content that a page shows, or `None` exactly if there is no such page or it shows none. Two
+/// look-ups.
+pub(crate) fn shown_in<'a>(rows: &Rows, shelf: &'a Shelf, id: PageId) -> Option<&'a Content>
+    ensures { (world : World) → rows.now.pages ≡ rows_of world.part.tree
+        → shelf.now.revisions ≡ world.part.revisions
+        → option_copied result ≡ shown_of world id }
 {
-    match shown {
+    let Some(row) = rows.row(id) else {
+        return None;
+    };
+    match find_shown(shelf, row.body.shown) {
         None => None,
-        Some(id) => shelf.get(id),
+        Some(revision) => Some(&revision.content),
     }
 }

@@ -1,30 +1,38 @@
 //! The site in memory.
 ghost use Rattle.std.specs.Prelude.{◌≡◌, ℕ, IfOk};
+ghost use Rattle.std.specs.Option.{option_copied, option_map};
+ghost use Rattle.page_tree.specs.Rows.{rows_of, row_with};
 ghost use Rattle.site_types.specs.declared.command.Command.{Command as AnyCommand};
 ghost use Rattle.site_model.specs.World.{World};
+ghost use Rattle.site_model.specs.Desks.{text_at};
 ghost use Rattle.site_model.specs.Start.{new_world};
 ghost use Rattle.site_model.specs.Laws.{FitsCommand};
 ghost use Rattle.site_model.specs.Rights as rights;
 ghost use Rattle.sha2.specs.Sha256.{sha256};
-ghost use Rattle.sight_model.specs.Cards.{card_of, live_page};
-ghost use Rattle.grants.specs.Standing.{IsSame};
-ghost use Rattle.site_core.specs.Standing.{StandsFor, IsReady, Prepares, HasPlan};
+ghost use Rattle.sight_model.specs.Cards.{card_of, live_page, answer_of};
+ghost use Rattle.site_core.specs.Kids.{shown_of};
+ghost use Rattle.site_core.specs.Standing.{StandsFor, IsReady, IsSame, Prepares, HasPlan};
 
+use crate::asking::{plan_saving, prepare_step};
+use crate::desk_parts::DeskParts;
 use crate::done::Done;
 use crate::finding::find_live;
-use crate::part::{commit, prepare};
-use crate::showing::card_in;
+use crate::part::commit;
+use crate::showing::{card_in, shown_in};
+use crate::texts::put_texts;
+use desk_pairs::DeskPairs;
 use grants::{Fault, Grants, Plan, TreePart};
 use page_store::Rows;
 use public_view::Card;
 use revision_shelf::Shelf;
-use site_types::{Command, Digest, Moment, NoMemory, PageId, Refusal, Reply, UserId};
+use site_types::{Command, Content, Digest, Moment, NoMemory, PageId, Reply, Url, UserId};
 use std::alloc::Global;
 
 /// The site in memory.
 #[derive(Debug, Drop)]
 pub struct Core {
     pub(crate) tree: TreePart,
+    pub(crate) desks: DeskParts,
 }
 
 impl Core {
@@ -35,6 +43,7 @@ impl Core {
         let Some(time) = Moment::new(0) else {
             unreachable!()
         };
+        let desks = DeskParts::new(alloc)?;
         let rows = Rows::root(alloc)?;
         let mut grants = Grants::new(alloc);
         grants.reserve(1)?;
@@ -44,18 +53,21 @@ impl Core {
                 rows,
                 shelf: Shelf::new(alloc),
                 grants,
+                desk_pairs: DeskPairs::new(alloc),
                 time,
                 next_page: 2,
                 next_revision: 1,
             },
+            desks,
         })
     }
 
     /// The plan of a command by a user at a moment, or why it is refused: the first of its rules that
     /// refuses it, in the order of their numbers, or want of memory. It changes nothing but spare
-    /// room. No desk is open yet, so that saving one is refused.
+    /// room.
     ///
-    /// It costs what the command's rules and the memory for it cost.
+    /// It costs what the command's rules and the memory for it cost. A text is saved exactly if the
+    /// caller has the desk: it costs a search and a copy of the text.
     pub fn prepare(
         &mut self,
         alloc: Global,
@@ -64,20 +76,23 @@ impl Core {
         now: Moment,
     ) -> Result<Plan, Fault>
         requires { (world : World) × IsReady self.old world × FitsCommand command.now }
-        ensures same { IsSame self.old.tree self.new.tree }
+        ensures same { IsSame self.old self.new }
         ensures plan { (world : World) → IsReady self.old world → FitsCommand command.now
             → Prepares world now caller command.now self.new result }
     {
-        if let Command::SaveDesk { .. } = command {
-            return Err(Fault::Refused(Refusal::NoDesk));
+        match command {
+            Command::SaveDesk { page, content } => {
+                plan_saving(alloc, &self.tree, &self.desks, *page, caller, content)
+            }
+            _ => prepare_step(alloc, &mut self.tree, &mut self.desks, command, caller, now),
         }
-        prepare(alloc, &mut self.tree, command, caller, now, None)
     }
 
     /// Does what was planned for this site. It cannot fail, and takes no memory.
     ///
     /// It costs a few look-ups for each page that comes, goes or changes, for each page that gets
-    /// another path or URL, and for each revision that goes.
+    /// another path or URL, and for each revision that comes or goes, and a few searches for each desk
+    /// that is opened, saved or ends.
     pub fn commit(&mut self, plan: Plan) -> Reply
         requires { (world : World) × (now : ℕ) × (caller : ℕ) × (command : AnyCommand)
             × HasPlan self.old world now caller command plan }
@@ -85,17 +100,38 @@ impl Core {
         ensures stands { (world : World) (now caller : ℕ) (command : AnyCommand)
             (has : HasPlan self.old world now caller command plan) → StandsFor self.new has.after }
     {
-        let Done { reply, .. } = commit(&mut self.tree, plan);
+        let Done {
+            reply,
+            opened,
+            saved,
+            shut,
+        } = commit(&mut self.tree, plan);
+        put_texts(&mut self.desks, opened, saved, shut);
         reply
     }
 
-    /// The card of a page, or `None` exactly where there is no such page.
+    /// The card of a page with its first live kids, or `None` exactly where there is no such page.
     ///
-    /// It costs three look-ups, and copies what the card tells.
+    /// It costs three look-ups, and a search and a few look-ups for each kid until a thousand live ones
+    /// are found; it copies what the card tells.
     pub fn card(&self, alloc: Global, id: PageId) -> Result<Option<Card>, NoMemory>
         ensures { (world : World) → IsReady self.now world → IfOk result (λ card. card ≡ card_of world id) }
     {
-        card_in(alloc, &self.tree, id)
+        card_in(alloc, &self.tree.rows, &self.tree.shelf, id)
+    }
+
+    /// What everybody is answered at a URL: the card of the live page there, or `None` exactly where
+    /// there is none.
+    ///
+    /// It costs what `find` and `card` cost.
+    pub fn public(&self, alloc: Global, url: &[u8]) -> Result<Option<Card>, NoMemory>
+        ensures { (world : World) → IsReady self.now world
+            → IfOk result (λ card. card ≡ answer_of world url.now) }
+    {
+        match self.find(url) {
+            None => Ok(None),
+            Some(id) => self.card(alloc, id),
+        }
     }
 
     /// The live page with this URL, or `None` exactly where there is none.
@@ -105,6 +141,30 @@ impl Core {
         ensures { (world : World) → IsReady self.now world → result ≡ live_page world url.now }
     {
         find_live(&self.tree.rows, url)
+    }
+
+    /// The URL of a page, or `None` exactly where there is no such page. One look-up.
+    pub fn url(&self, id: PageId) -> Option<&Url>
+        ensures { (world : World) → IsReady self.now world
+            → option_copied result ≡ option_map (λ row. row.url) (row_with id (rows_of world.part.tree)) }
+    {
+        self.tree.rows.url(id)
+    }
+
+    /// The content that a page shows, or `None` exactly if there is no such page or it shows none. Two
+    /// look-ups.
+    pub fn shown(&self, id: PageId) -> Option<&Content>
+        ensures { (world : World) → IsReady self.now world → option_copied result ≡ shown_of world id }
+    {
+        shown_in(&self.tree.rows, &self.tree.shelf, id)
+    }
+
+    /// The text of a user's desk on a page, or `None` exactly if the user has no desk there. One search.
+    pub fn desk(&self, page: PageId, user: UserId) -> Option<&Content>
+        ensures { (world : World) → IsReady self.now world
+            → option_copied result ≡ text_at world.desks page user }
+    {
+        self.desks.text(page, user)
     }
 
     /// The user whose token this is, by its SHA-256 digest, or `None` exactly where there is none.

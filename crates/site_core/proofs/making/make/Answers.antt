@@ -3,7 +3,7 @@ use Rattle.std.proofs.Common.{sym, ap, subst, refl, ◌∙◌, ◌++◌}
 use Rattle.std.specs.List.{AllByRecursion}
 use Rattle.site_ids.specs.Ids.{IsPageId}
 use Rattle.flat_model.specs.Fits.{BodiesFit, RevisionsFit, PeopleFit}
-use Rattle.flat_model.specs.Made.{with_bodies, made, revisions_left, people_left, people_made}
+use Rattle.flat_model.specs.Made.{with_bodies, made, revisions_left, purge_left, people_left, people_made}
 use Rattle.flat_model.proofs.ListLemmas.{lists_are}
 use Rattle.grants.specs.Standing.{seen, seen_people}
 use Rattle.site_core.proofs.making.make.Goals as goal
@@ -12,8 +12,8 @@ pub put_bodies-requires : goal.put_bodies-requires
 put_bodies-requires c =
     subst (BodiesFit c.args.change.bodies) (sym c.put_tree.ensures) c.requires.fits.bodies
 
-pub drop_revisions-requires : goal.drop_revisions-requires
-drop_revisions-requires c =
+pub drop_pages-requires : goal.drop_pages-requires
+drop_pages-requires c =
     subst (AllByRecursion IsPageId) (sym c.as_slice.ensures) c.requires.fits.gone
 
 pub drop_grants-requires : goal.drop_grants-requires
@@ -23,8 +23,9 @@ drop_grants-requires c =
 pub put_revisions-requires-clause-fits : goal.put_revisions-requires-clause-fits
 put_revisions-requires-clause-fits c =
     subst (RevisionsFit c.args.change.revisions)
-    (sym (c.drop_revisions.ensures.revisions
-    ∙ ap (λ gone. revisions_left gone c.args.part.now.shelf.revisions) c.as_slice.ensures))
+    (sym (c.put_purge.ensures.revisions
+    ∙ ap (purge_left c.args.change.purge) (c.drop_pages.ensures.revisions
+    ∙ ap (λ gone. revisions_left gone c.args.part.now.shelf.revisions) c.as_slice.ensures)))
     c.requires.fits.revisions
 
 pub put_people-requires-clause-fits : goal.put_people-requires-clause-fits
@@ -34,15 +35,16 @@ put_people-requires-clause-fits c =
     ∙ ap (λ gone. people_left gone (seen_people c.args.part.now.grants)) c.as_slice-2.ensures))
     c.requires.fits.people
 
-pub returns : goal.returns
-returns c =
+pub returns-clause-made : goal.returns-clause-made
+returns-clause-made c =
     let change = c.args.change in
     let before = seen c.args.part.now in
     lists_are _ (made change before)
     (c.put_bodies.ensures ∙ ap (with_bodies change.bodies) c.put_tree.ensures)
     (c.put_revisions.ensures
-    ∙ ap (λ list. list ++ change.revisions) (c.drop_revisions.ensures.revisions
-    ∙ ap (λ gone. revisions_left gone c.args.part.now.shelf.revisions) c.as_slice.ensures))
+    ∙ ap (λ list. list ++ change.revisions) (c.put_purge.ensures.revisions
+    ∙ ap (purge_left change.purge) (c.drop_pages.ensures.revisions
+    ∙ ap (λ gone. revisions_left gone c.args.part.now.shelf.revisions) c.as_slice.ensures)))
     (c.put_people.ensures
     ∙ ap (people_made change.people) (c.drop_grants.ensures.people
     ∙ ap (λ gone. people_left gone (seen_people c.args.part.now.grants)) c.as_slice-2.ensures))

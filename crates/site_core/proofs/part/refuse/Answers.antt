@@ -13,7 +13,7 @@ returns-in-Ok c = λ world text now ready.
     not_built world text now c.args.caller c.args.command.now
     (passed _ (sym c.in-Ok.is
     ∙ c.front.ensures world ready.stands
-    (no_moderation world.tree ready.reached.none_yet.drafts)))
+    (no_moderation world ready.reached)))
     (later_unbuilt c.args.command.now c.requires.later)
 
 pub returns-in-Err : goal.returns-in-Err
@@ -21,4 +21,4 @@ returns-in-Err c = λ world text now ready.
     front_refuses world text now c.args.caller c.args.command.now c.in-Err.refusal
     (refused _ c.in-Err.refusal (sym c.in-Err.is
     ∙ c.front.ensures world ready.stands
-    (no_moderation world.tree ready.reached.none_yet.drafts)))
+    (no_moderation world ready.reached)))

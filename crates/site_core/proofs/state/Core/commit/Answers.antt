@@ -1,30 +1,44 @@
--- The change fits the lists of the world, which are what is kept, and no desk is open.
+-- The plan fits the lists of the world, which are what is kept, and the desks follow page by page.
 use Rattle.std.proofs.Common.{ap, sym, subst, ◌∙◌}
-use Rattle.flat_model.specs.Fits.{Fits}
-use Rattle.flat_model.specs.Made.{made}
-use Rattle.grants.specs.Standing as parts_stand
+use Rattle.std.specs.List.{AllByRecursion}
+use Rattle.site_ids.specs.Ids.{IsPageId}
+use Rattle.grants.specs.Plans.{PlanFits, left_by}
 use Rattle.grants.proofs.StandingLemmas.{stands_seen, seen_stands}
+use Rattle.site_core.specs.Texts.{OpensWell, kept_on}
+use Rattle.site_core.proofs.PrepareLemmas.{left_told}
 use Rattle.site_core.proofs.state.Core.commit.Goals as goal
 
 pub commit-reply-requires-clause-fits : goal.commit-reply-requires-clause-fits
 commit-reply-requires-clause-fits c =
-    let can = c.requires.4.tree.can in
-    subst (λ lists. Fits lists c.args.plan.change)
-    (sym (stands_seen c.args.self.now.tree c.requires.0.part can.ready.stands))
-    can.right.change_fits
+    subst (λ lists. PlanFits lists c.args.plan)
+    (sym (stands_seen c.args.self.now.tree c.requires.0.part c.requires.4.ready.stands.tree))
+    c.requires.4.fits
 
 pub commit-reply-requires-clause-room : goal.commit-reply-requires-clause-room
-commit-reply-requires-clause-room c = c.requires.4.tree.can.room
+commit-reply-requires-clause-room c = c.requires.4.room
+
+pub commit-reply-requires-clause-pages : goal.commit-reply-requires-clause-pages
+commit-reply-requires-clause-pages c = c.requires.4.pages
+
+pub put_texts-requires-clause-opens : goal.put_texts-requires-clause-opens
+put_texts-requires-clause-opens c =
+    subst (OpensWell c.args.self.now.desks) (sym c.commit-reply.ensures.told.opened)
+    c.requires.4.opens
+
+pub put_texts-requires-clause-pages : goal.put_texts-requires-clause-pages
+put_texts-requires-clause-pages c =
+    subst (AllByRecursion IsPageId) (sym c.commit-reply.ensures.told.shut) c.requires.4.pages
 
 pub returns-clause-stands : goal.returns-clause-stands
-returns-clause-stands c = λ world now caller command has.
-    let can = has.tree.can in
-    record {
-      tree = subst (parts_stand.StandsFor c.commit-reply.new.part) (sym has.part_is)
-          (seen_stands c.commit-reply.new.part has.tree.after
-          (c.commit-reply.ensures.made
-          ∙ (ap (made c.args.plan.change)
-          (stands_seen c.args.self.now.tree world.part can.ready.stands)
-          ∙ can.right.leads)));
-      no_desks = has.desks_are;
-    }
+returns-clause-stands c = λ world now caller command has. record {
+  tree = seen_stands c.commit-reply.new.part has.after.part
+      (c.commit-reply.ensures.made
+      ∙ (ap (left_by c.args.plan)
+      (stands_seen c.args.self.now.tree world.part has.ready.stands.tree)
+      ∙ has.leads));
+  desks = λ page.
+      c.put_texts.ensures page
+      ∙ (left_told c.args.plan c.commit-reply.result c.commit-reply.ensures.told page
+      (kept_on page c.args.self.now.desks.lists)
+      ∙ has.desks_are page);
+}

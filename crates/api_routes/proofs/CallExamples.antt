@@ -11,7 +11,7 @@ use Rattle.wire_model.specs.Forms.{position_of, creation_in, move_in, page_comma
 use Rattle.wire_model.specs.Routes.{route_of, command, read_named, unbuilt, nowhere, public_page, id_written, closed_path, call_of}
 use Rattle.wire_model.specs.declared.form.CommandForm.TheVariants as forms
 use Rattle.wire_model.specs.declared.form.PageVerb.TheVariants as verbs
-use Rattle.wire_model.specs.declared.form.ReadForm.TheVariants.{Card}
+use Rattle.wire_model.specs.declared.form.ReadForm.TheVariants as reads
 use Rattle.wire_model.specs.declared.call.Call.TheVariants.{Page, Public}
 use Rattle.wire_model.specs.declared.call.RouteFault.TheVariants.{NotFound, NotBuilt, Method as WrongMethod, Form}
 
@@ -41,7 +41,7 @@ unfolding route_of
 after_a_name = refl
 
 -- a part after `/api/pages/` is a card's, whatever it is
-a_part_is_a_card : route_of (codes "/api/pages/x") ≡ read_named Card (codes "x")
+a_part_is_a_card : route_of (codes "/api/pages/x") ≡ read_named reads.Card (codes "x")
 unfolding route_of
 a_part_is_a_card = refl
 
@@ -61,9 +61,14 @@ unfolding route_of
 a_command = refl
 
 -- a desk
-a_desk : route_of (codes "/api/desks/2") ≡ unbuilt
+a_desk : route_of (codes "/api/desks/2") ≡ read_named reads.Desk (codes "2")
 unfolding route_of
 a_desk = refl
+
+-- what is not built of a page
+no_refs : route_of (codes "/api/refs/2") ≡ unbuilt
+unfolding route_of
+no_refs = refl
 
 -- `/api` and what is below it has no other route, and any other path is for everybody
 api_alone : route_of (codes "/api") ≡ nowhere

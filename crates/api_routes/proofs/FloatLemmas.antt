@@ -1,11 +1,16 @@
 -- No number in a body is a float, so its text is determined.
-use Rattle.std.proofs.Common.{◌≡◌, ℕ, List, [], ◌∷◌, Option, Some, None, false, refl}
-use Rattle.serde_json.specs.Written.{has_float}
+use Rattle.std.proofs.Common.{◌≡◌, ◌||◌, ℕ, Bool, true, false, List, [], ◌∷◌, map, Option, Some, None, refl}
+use Rattle.serde_json.specs.View.{items_of}
+use Rattle.serde_json.specs.Written.{has_float, items_have_float}
+use Rattle.json_model.specs.Content.{block_data}
+use Rattle.json_model.proofs.TextLemmas.{content_plain}
 use Rattle.public_view.specs.declared.card.Card.{Card}
+use Rattle.public_view.specs.declared.kid.LiveKid.{LiveKid}
+use Rattle.site_types.specs.declared.block.Block.{Block}
 use Rattle.site_types.specs.declared.moderation.Moderation.{Moderation}
 use Rattle.site_types.specs.declared.reply.Reply.{Reply}
 use Rattle.site_types.specs.declared.reply.Reply.TheVariants as replies
-use Rattle.wire_model.specs.Answers.{wholes, or_zero, time_or_null, moderation_status, moderation_task, reply_data, card_data}
+use Rattle.wire_model.specs.Answers.{wholes, or_zero, time_or_null, moderation_status, moderation_task, reply_data, card_data, kid_data, public_data}
 
 -- a list of whole numbers has no float
 pub wholes_have_no_float : (ids : List ℕ) → has_float (wholes ids) ≡ false
@@ -64,3 +69,24 @@ card_has_no_float card =
       or_zero_has_no_float card.body.shown,
       task_has_no_float card.body.moderation,
     )
+
+-- what is false with another test beside it is false alone
+false_alone : (test : Bool) → test || false ≡ false → test ≡ false
+false_alone true is = absurd (cc)
+false_alone false is = refl
+
+-- blocks have no float, since a content of them has none
+blocks_have_no_float : (blocks : List Block) →
+    items_have_float (items_of (map block_data blocks)) ≡ false
+blocks_have_no_float blocks =
+    false_alone _ (content_plain (record { title = []; blocks = blocks }))
+
+-- kids have no float
+kids_have_no_float : (kids : List LiveKid) →
+    items_have_float (items_of (map kid_data kids)) ≡ false
+kids_have_no_float [] = refl
+kids_have_no_float (kid ∷ kids) = kids_have_no_float kids
+
+-- the body of a public page has no float
+pub public_has_no_float : (card : Card) → has_float (public_data card) ≡ false
+public_has_no_float card = rw (blocks_have_no_float card.blocks, kids_have_no_float card.kids) refl

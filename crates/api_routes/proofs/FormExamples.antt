@@ -1,9 +1,12 @@
--- The definition of the commands on users, groups, memberships and grants at worked values.
+-- The definition of the commands on users, groups, memberships, grants and desks at worked values.
 use Rattle.std.proofs.Common.{◌≡◌, ℕ, List, [], ◌∷◌, Some, None, refl, codes, true, false}
-use Rattle.serde_json.specs.Data.{Data, boolean, unsigned, number, string, array, object, no_items, no_members, member}
-use Rattle.site_types.specs.declared.command.Command.TheVariants.{DefineUser, DefineGroup, Member, Grant}
+use Rattle.serde_json.specs.Data.{Data, null, boolean, unsigned, number, string, array, object, no_items, no_members, member}
+use Rattle.civil_time.specs.Periods.{days_of_first, place_of}
+use Rattle.civil_time.specs.TimeText.{civil_at, time_text}
+use Rattle.site_types.specs.declared.command.Command.TheVariants.{SaveDesk, File, DefineUser, DefineGroup, Member, Grant}
 use Rattle.site_types.specs.declared.permission.Permission.TheVariants.{BulkDelete}
-use Rattle.wire_model.specs.Forms.{hex_bytes, digest_of, user_definition_in, group_definition_in, membership_in, grant_in}
+use Rattle.wire_model.specs.Times.{time_of}
+use Rattle.wire_model.specs.Forms.{hex_bytes, digest_of, saving_in, filing_in, user_definition_in, group_definition_in, membership_in, grant_in}
 
 -- the SHA-256 digest of `hello`, as bytes
 abbrev hello : List ℕ
@@ -96,3 +99,59 @@ a_grant = refl
 -- other letters name no permission
 other_letters : grant_in (grant_object (codes "ADD")) ≡ None
 other_letters = refl
+
+-- {"content":{"blocks":[],"title":..},"page":2} with this title
+abbrev saving_object : List ℕ → Data
+saving_object title =
+    object
+    (member (codes "content")
+    (object
+    (member (codes "blocks") (array no_items) (member (codes "title") (string title) no_members)))
+    (member (codes "page") (number (unsigned 2)) no_members))
+
+-- a text is saved at the desk on page 2, and one without a title is none
+a_saving : saving_in (saving_object (codes "New"))
+    ≡ Some (SaveDesk 2 (record { title = codes "New"; blocks = [] }))
+a_saving = refl
+
+-- no title
+no_saving : saving_in (saving_object []) ≡ None
+no_saving = refl
+
+-- {"expire_at":..,"go_live_at":..,"page":2} with these moments
+abbrev filing_object : Data → Data → Data
+filing_object expire go_live =
+    object
+    (member (codes "expire_at") expire
+    (member (codes "go_live_at") go_live
+    (member (codes "page") (number (unsigned 2)) no_members)))
+
+-- a text is filed without moments
+a_filing : filing_in (filing_object null null) ≡ Some (File 2 None None)
+a_filing = refl
+
+-- a text is a moment's if it is that moment's text
+a_moment : time_of (codes "2023-11-14T22:13:20Z") ≡ Some 1_700_000_000
+unfolding time_of time_text civil_at place_of days_of_first
+a_moment = refl
+
+-- the year has no such day
+no_such_day : time_of (codes "2023-02-29T00:00:00Z") ≡ None
+unfolding time_of time_text civil_at place_of days_of_first
+no_such_day = refl
+
+-- `T` and `Z` are capital
+small_letters : time_of (codes "2023-11-14t22:13:20z") ≡ None
+unfolding time_of time_text civil_at place_of days_of_first
+small_letters = refl
+
+-- so the go-live and the expiry of a filing are read
+a_scheduled_filing : filing_in
+    (filing_object (string (codes "2023-11-14T22:13:20Z")) (string (codes "1970-01-01T00:00:00Z")))
+    ≡ Some (File 2 (Some 0) (Some 1_700_000_000))
+unfolding time_of time_text civil_at place_of days_of_first
+a_scheduled_filing = refl
+
+-- a number is no moment
+no_moment : filing_in (filing_object (number (unsigned 0)) null) ≡ None
+no_moment = refl

@@ -8,11 +8,11 @@ use Rattle.http_model.specs.declared.status.StatusCode.TheVariants as statuses
 use Rattle.public_view.specs.declared.card.Card.{Card}
 use Rattle.site_types.specs.declared.body.Body.{Body}
 use Rattle.site_types.specs.declared.moderation.ModerationStatus.TheVariants.{NeedsChanges}
-use Rattle.site_types.specs.declared.refusal.Refusal.TheVariants.{SlugTaken, NothingNew, NoPage, Denied}
+use Rattle.site_types.specs.declared.refusal.Refusal.TheVariants.{SlugTaken, NothingNew, NoPage, NoDesk, Denied}
 use Rattle.site_types.specs.declared.reply.Reply.TheVariants as replies
 use Rattle.site_types.specs.RootBody.{root_body}
 use Rattle.wire_model.specs.declared.answer.Answer.TheVariants.{Method, Head, Refused}
-use Rattle.wire_model.specs.Answers.{reply_data, card_data, refusal_data, response_of, has_unpublished_changes}
+use Rattle.wire_model.specs.Answers.{reply_data, card_data, public_data, refusal_data, response_of, has_unpublished_changes}
 
 -- a page was made
 a_page_is_told : compact_text (reply_data 1 (replies.Page 2 (codes "00010001") (codes "/home/"))) ≡
@@ -55,7 +55,7 @@ nothing_new_is_told = refl
 abbrev made_body : Body
 made_body = record root_body { owner = 1; shown = Some 1; latest = Some 1 }
 
--- the card of the first page below the root
+-- the card of the first page below the root, with a live kid
 abbrev home_card : Card
 home_card =
     record {
@@ -69,6 +69,7 @@ home_card =
       title = codes "Home";
       blocks = [];
       expire_at = None;
+      kids = record { id = 3; title = codes "News"; url = codes "/home/news/" } ∷ [];
     }
 
 -- its text
@@ -81,6 +82,13 @@ the_card_is_told : compact_text (card_data home_card) ≡
     ++ codes "\"unpublished_changes\":true,\"url\":\"/home/\"}"
 unfolding digits serde_json_on_literals
 the_card_is_told = refl
+
+-- the page for everybody
+the_page_is_told : compact_text (public_data home_card) ≡
+    codes "{\"blocks\":[],\"children\":[{\"id\":3,\"title\":\"News\",\"url\":\"/home/news/\"}],"
+    ++ codes "\"id\":2,\"title\":\"Home\",\"url\":\"/home/\"}"
+unfolding digits serde_json_on_literals
+the_page_is_told = refl
 
 -- the root has no changes that are not public, nor has a live page that shows its latest revision
 the_root_has_no_changes : has_unpublished_changes root_body None ≡ false
@@ -105,6 +113,11 @@ no_page_is_404 = refl
 denied_is_403 : (response_of (Refused (Denied 1))).status ≡ statuses.Forbidden
 unfolding response_of
 denied_is_403 = refl
+
+-- no desk is 409
+no_desk_is_409 : (response_of (Refused NoDesk)).status ≡ statuses.Conflict
+unfolding response_of
+no_desk_is_409 = refl
 
 -- another is 409
 another_is_409 : (response_of (Refused NothingNew)).status ≡ statuses.Conflict

@@ -2,10 +2,11 @@
 ghost use Rattle.std.specs.Prelude.{◌≡◌};
 ghost use Rattle.serde_json.specs.View.{view};
 ghost use Rattle.block_content.specs.Reads.{Reads};
-ghost use Rattle.wire_model.specs.Forms.{command_in, creation_in, move_in, slug_change_in, page_command_in, command_on, user_definition_in, group_definition_in, membership_in, grant_in};
+ghost use Rattle.wire_model.specs.Forms.{command_in, creation_in, move_in, slug_change_in, saving_in, filing_in, page_command_in, command_on, user_definition_in, group_definition_in, membership_in, grant_in};
 
 use crate::member::{
-    content_at, digest_at, group_at, id_at, permission_at, position_at, slug_at, truth_at, user_at,
+    content_at, digest_at, group_at, id_at, permission_at, position_at, slug_at, time_at, truth_at,
+    user_at,
 };
 use block_content::ContentFault;
 use block_content::members::has_exactly;
@@ -14,7 +15,7 @@ use site_types::{Command, PageId};
 use std::alloc::Global;
 use wire_model::{CommandForm, PageVerb};
 
-/// The command of a form that a value asks for. Only a creation takes memory.
+/// The command of a form that a value asks for. Only a creation and a saving take memory.
 pub(crate) fn command_in(
     alloc: Global,
     form: CommandForm,
@@ -27,6 +28,8 @@ pub(crate) fn command_in(
         CommandForm::Move => or_bad(move_in(value)),
         CommandForm::SetSlug => or_bad(slug_change_in(value)),
         CommandForm::OnPage(verb) => or_bad(page_command_in(verb, value)),
+        CommandForm::Save => saving_in(alloc, value),
+        CommandForm::File => or_bad(filing_in(value)),
         CommandForm::DefineUser => or_bad(user_definition_in(value)),
         CommandForm::DefineGroup => or_bad(group_definition_in(value)),
         CommandForm::Member => or_bad(membership_in(value)),
@@ -92,6 +95,37 @@ fn slug_change_in(value: &Value) -> Option<Command>
     let page = id_at(value, "page")?;
     let slug = slug_at(value)?;
     Some(Command::SetSlug { page, slug })
+}
+
+/// The saving of a text at a desk that a value asks for.
+fn saving_in(alloc: Global, value: &Value) -> Result<Command, ContentFault>
+    ensures { Reads result (saving_in (view value.now)) }
+{
+    if !has_exactly(value, &["content", "page"]) {
+        return Err(ContentFault::Bad);
+    }
+    let Some(page) = id_at(value, "page") else {
+        return Err(ContentFault::Bad);
+    };
+    let content = content_at(alloc, value)?;
+    Ok(Command::SaveDesk { page, content })
+}
+
+/// The filing of the text at a desk that a value asks for.
+fn filing_in(value: &Value) -> Option<Command>
+    ensures { result ≡ filing_in (view value.now) }
+{
+    if !has_exactly(value, &["expire_at", "go_live_at", "page"]) {
+        return None;
+    }
+    let page = id_at(value, "page")?;
+    let go_live = time_at(value, "go_live_at")?;
+    let expire = time_at(value, "expire_at")?;
+    Some(Command::File {
+        page,
+        go_live,
+        expire,
+    })
 }
 
 /// The command of a verb on the page that a value names.

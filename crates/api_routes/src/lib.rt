@@ -11,6 +11,7 @@ mod id;
 mod member;
 mod parts;
 mod path;
+mod public;
 mod refusal;
 mod reply;
 mod response;

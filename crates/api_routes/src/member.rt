@@ -2,6 +2,7 @@
 ghost use Rattle.std.specs.Prelude.{◌≡◌};
 ghost use Rattle.serde_json.specs.View.{view};
 ghost use Rattle.block_content.specs.Reads.{Reads};
+ghost use Rattle.wire_model.specs.Times.{time_of, time_or_none, time_at};
 ghost use Rattle.wire_model.specs.Forms.{id_at, slug_at, content_at, position_at, truth_at, user_at, group_at, permission_at, digest_at};
 
 use crate::digest::written_digest;
@@ -10,10 +11,11 @@ use block_content::members::{member, page_id, slug, text_at, truth, whole_within
 use block_content::{ContentFault, read_content};
 use serde_json::Value;
 use site_types::{
-    Content, Digest, GroupId, LAST_GROUP_ID, LAST_USER_ID, PageId, Permission, Position, Slug,
-    UserId,
+    Content, Digest, GroupId, LAST_GROUP_ID, LAST_USER_ID, Moment, PageId, Permission, Position,
+    Slug, UserId,
 };
 use std::alloc::Global;
+use time_table::read_time;
 use wire_model::{PERMISSIONS, POSITIONS};
 
 /// The id of a page at the member of this name.
@@ -85,4 +87,30 @@ pub(crate) fn permission_at(value: &Value) -> Option<Permission>
 {
     let text = text_at(value, "permission")?;
     named(&PERMISSIONS, text)
+}
+
+/// The moment, which may be absent, at the member of this name.
+pub(crate) fn time_at(value: &Value, name: &str) -> Option<Option<Moment>>
+    ensures { result ≡ time_at name.now (view value.now) }
+{
+    time_or_none(member(value, name)?)
+}
+
+/// A moment that may be absent: null, or the text of a moment.
+fn time_or_none(value: &Value) -> Option<Option<Moment>>
+    ensures { result ≡ time_or_none (view value.now) }
+{
+    if let Value::Null = value {
+        return Some(None);
+    }
+    let text = value.as_str()?;
+    let moment = written_time(text.as_bytes())?;
+    Some(Some(moment))
+}
+
+/// The moment with this text.
+fn written_time(text: &[u8]) -> Option<Moment>
+    ensures { result ≡ time_of text.now }
+{
+    read_time(text)
 }

@@ -6,8 +6,10 @@ ghost use Rattle.http_wire.specs.Responding as wire;
 ghost use Rattle.wire_model.specs.Answers.{head_status, head_error, error_data, plain_response, response_of};
 
 use crate::card::card_value;
+use crate::public::public_value;
 use crate::refusal::{refusal_status, refusal_value};
 use crate::reply::reply_value;
+use block_content::write_content;
 use http_wire::{Response, StatusCode};
 use serde_json::{Value, json};
 use site_types::{Bytes, NoMemory};
@@ -25,8 +27,16 @@ pub fn to_response(alloc: Global, answer: &Answer) -> Result<Response, NoMemory>
             let value = reply_value(alloc, *entry, reply)?;
             plain(alloc, StatusCode::Ok, &value)
         }
+        Answer::Public(card) => {
+            let value = public_value(alloc, card)?;
+            plain(alloc, StatusCode::Ok, &value)
+        }
         Answer::Page(card) => {
             let value = card_value(alloc, card)?;
+            plain(alloc, StatusCode::Ok, &value)
+        }
+        Answer::Desk(text) => {
+            let value = write_content(alloc, text)?;
             plain(alloc, StatusCode::Ok, &value)
         }
         Answer::Refused(refusal) => {

@@ -11,4 +11,4 @@ mod write;
 pub use fault::ContentFault;
 pub use linked::links;
 pub use read::read_content;
-pub use write::write_content;
+pub use write::{write_blocks, write_content};

@@ -25,8 +25,8 @@ pub fn write_content(alloc: Global, content: &Content) -> Result<Value, NoMemory
     Ok(Value::Object(members))
 }
 
-/// The array of these blocks.
-fn write_blocks(alloc: Global, blocks: &[Block]) -> Result<Value, NoMemory>
+/// The array of these blocks, each as an object of one member.
+pub fn write_blocks(alloc: Global, blocks: &[Block]) -> Result<Value, NoMemory>
     ensures form { IfOk result (λ value. view value
         ≡ array (items_of (map block_data blocks.now))) }
     ensures links { OnOk result (All LinksToId blocks.now) }

@@ -1,7 +1,8 @@
 //! Cards of pages.
-use site_types::{Blocks, Body, Moment, PageId, PathText, Slug, Text, Url};
+use crate::LiveKid;
+use site_types::{Blocks, Body, Items, Moment, PageId, PathText, Slug, Text, Url};
 
-/// What a card says of a page: its row, its URL and what it shows.
+/// What a card says of a page: its row, its URL, what it shows, and its live kids.
 #[derive(Debug, Drop)]
 pub struct Card {
     /// The page's number.
@@ -24,4 +25,6 @@ pub struct Card {
     pub blocks: Blocks,
     /// When it is to stop being live, by the revision that it shows, if ever.
     pub expire_at: Option<Moment>,
+    /// Its live kids in path order: the first `MAX_KIDS` of them, if there are more.
+    pub kids: Items<LiveKid>,
 }

@@ -2,5 +2,7 @@
 #![tactic(auto)]
 
 mod card;
+mod kid;
 
 pub use card::Card;
+pub use kid::{LiveKid, MAX_KIDS};

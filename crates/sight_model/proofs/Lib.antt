@@ -1,2 +1,4 @@
-pub mod LiveLemmas
+pub mod FindLemmas
 pub mod CardLemmas
+pub mod LiveLemmas
+pub mod KidLemmas

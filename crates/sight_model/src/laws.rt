@@ -1,17 +1,32 @@
 //! Laws of what readers see. Each is a function that does nothing: its contract is the law.
-ghost use Rattle.sight_model.specs.Laws.{NoDraftIsLive, NoDraftIsPublic, CardsKeepTheirPage};
-
-/// If every page is a draft, no page is live at any URL.
-pub fn no_draft_is_live()
-    ensures { NoDraftIsLive }
-{}
-
-/// If every page is a draft, everybody is answered nothing at any URL.
-pub fn no_draft_is_public()
-    ensures { NoDraftIsPublic }
-{}
+ghost use Rattle.sight_model.specs.Laws.{CardsKeepTheirPage, OnlyLivePagesArePublic, LivePagesArePublic, KidsAreLive, KidsAreFew, NoKidIsLeftOut};
 
 /// The page of a card is the one that the card was asked of.
 pub fn cards_keep_their_page()
     ensures { CardsKeepTheirPage }
+{}
+
+/// What everybody is answered at a URL is the card of a live page with this URL.
+pub fn only_live_pages_are_public()
+    ensures { OnlyLivePagesArePublic }
+{}
+
+/// If a live page has a URL, everybody is answered a card there.
+pub fn live_pages_are_public()
+    ensures { LivePagesArePublic }
+{}
+
+/// Each kid that a card tells is a live kid of the card's page.
+pub fn kids_are_live()
+    ensures { KidsAreLive }
+{}
+
+/// No card tells more than `MAX_KIDS` kids.
+pub fn kids_are_few()
+    ensures { KidsAreFew }
+{}
+
+/// A card that tells fewer than `MAX_KIDS` kids tells every live kid of its page.
+pub fn no_kid_is_left_out()
+    ensures { NoKidIsLeftOut }
 {}

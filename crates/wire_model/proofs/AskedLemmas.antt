@@ -6,11 +6,12 @@ use Rattle.std.specs.Option.{option_or}
 use Rattle.std.specs.List.{list_all}
 use Rattle.serde_json.specs.Data.{Data}
 use Rattle.serde_json.specs.Find.{get}
+use Rattle.site_ids.specs.Moment.{IsMoment}
 use Rattle.site_ids.specs.Slug.{IsSlug}
 use Rattle.site_ids.specs.declared.digest.TheConstants.{DIGEST_BYTES}
 use Rattle.site_types.specs.Content.{ContentValue, FitsLimits}
 use Rattle.site_types.specs.declared.command.Command.{Command}
-use Rattle.site_types.specs.declared.command.Command.TheVariants.{Create, Move, SetSlug, DefineUser, DefineGroup, Member, Grant}
+use Rattle.site_types.specs.declared.command.Command.TheVariants.{Create, Move, SetSlug, SaveDesk, File, DefineUser, DefineGroup, Member, Grant}
 use Rattle.site_types.specs.declared.permission.Permission.{Permission}
 use Rattle.site_types.specs.declared.position.Position.{Position}
 use Rattle.http_model.specs.declared.method.Method.{Method}
@@ -25,11 +26,13 @@ use Rattle.wire_model.specs.declared.form.CommandForm.{CommandForm}
 use Rattle.wire_model.specs.declared.form.CommandForm.TheVariants as forms
 use Rattle.wire_model.specs.declared.form.PageVerb.{PageVerb}
 use Rattle.wire_model.specs.declared.form.ReadForm.{ReadForm}
-use Rattle.wire_model.specs.declared.form.ReadForm.TheVariants.{Card}
+use Rattle.wire_model.specs.declared.form.ReadForm.TheVariants as reads
 use Rattle.wire_model.specs.Tables.{named}
-use Rattle.wire_model.specs.Forms.{id_at, slug_at, content_at, position_at, permission_at, truth_at, user_at, group_at, digest_at, creation_of, move_of, slug_change_of, command_on, user_definition_of, membership_of, grant_asked_of, command_in, command_asked, data_of}
+use Rattle.wire_model.specs.Forms.{id_at, slug_at, content_at, position_at, permission_at, truth_at, user_at, group_at, digest_at, creation_of, move_of, slug_change_of, saving_of, filing_of, command_on, user_definition_of, membership_of, grant_asked_of, command_in, command_asked, data_of}
+use Rattle.wire_model.specs.Times.{time_at}
 use Rattle.wire_model.specs.Routes.{Route, command_routes, read_routes, command_route, read_route, has_part_after, after_front, read_at, command_at, is_api, beside, id_written, closed_path, or_fault, by_post, by_get, read_call, call_on, route_of, call_of}
 use Rattle.wire_model.specs.Routes as routes
+use Rattle.wire_model.proofs.TimeLemmas.{AreTimes, member_time}
 use Rattle.wire_model.proofs.ReadLemmas.{AreSlugs, AreDigests, member_slug, member_content, read_digest}
 
 -- a command, if there is one, is one of these
@@ -55,12 +58,16 @@ RoutePasses test routes.nowhere = Unit {0}
 RoutePasses test routes.public_page = Unit {0}
 
 -- What is to be shown of a fact of commands: that it holds of each kind of command that a body can
--- ask for by a form that passes a test. Its slug, its content and its digest fit.
+-- ask for by a form that passes a test. Its slug, its content, its moments and its digest fit.
 pub record HoldsOfForms (Such : Command → Type 0) (test : CommandForm → Bool) : Type 0 where
   pub creation : (parent : ℕ) (slug : List ℕ) (content : ContentValue) → IsSlug slug →
       FitsLimits content → Such (Create parent slug content)
   pub moving : (page target : ℕ) (position : Position) → Such (Move page target position)
   pub naming : (page : ℕ) (slug : List ℕ) → IsSlug slug → Such (SetSlug page slug)
+  pub saving : (page : ℕ) (content : ContentValue) → FitsLimits content →
+      Such (SaveDesk page content)
+  pub filing : (page : ℕ) (go_live expire : Option ℕ) → IfSome go_live IsMoment →
+      IfSome expire IsMoment → Such (File page go_live expire)
   pub on_page : (verb : PageVerb) (page : ℕ) → test (forms.OnPage verb) ≡ true →
       Such (command_on verb page)
   pub user : (digest : List ℕ) (superuser : Bool) → length digest ≡ DIGEST_BYTES →
@@ -182,6 +189,22 @@ module _ (Such : Command → Type 0) (test : CommandForm → Bool) (hold : Holds
   slug_is (Some page) None is = tt
   slug_is None slug is = tt
 
+  -- so is the saving of a text
+  saving_is : (page : Option ℕ) (content : Option ContentValue) → IfSome content FitsLimits →
+      AreSuch Such (saving_of page content)
+  saving_is (Some page) (Some content) fits = hold.saving page content fits
+  saving_is (Some page) None fits = tt
+  saving_is None content fits = tt
+
+  -- so is the filing of a text
+  filing_is : (page : Option ℕ) (go_live expire : Option (Option ℕ)) → AreTimes go_live →
+      AreTimes expire → AreSuch Such (filing_of page go_live expire)
+  filing_is (Some page) (Some go_live) (Some expire) live ends =
+      hold.filing page go_live expire live ends
+  filing_is (Some page) (Some go_live) None live ends = tt
+  filing_is (Some page) None expire live ends = tt
+  filing_is None go_live expire live ends = tt
+
   -- so is a command on a page
   page_is : (verb : PageVerb) (page : Option ℕ) → test (forms.OnPage verb) ≡ true →
       AreSuch Such (option_map (command_on verb) page)
@@ -234,6 +257,19 @@ module _ (Such : Command → Type 0) (test : CommandForm → Bool) (hold : Holds
       such_if Such (has_exactly (codes "page" ∷ []) value)
       (option_map (command_on verb) (id_at (codes "page") value))
       (page_is verb (id_at (codes "page") value) passed)
+  form_is forms.Save value passed =
+      such_if Such (has_exactly (codes "content" ∷ codes "page" ∷ []) value)
+      (saving_of (id_at (codes "page") value) (content_at value))
+      (saving_is (id_at (codes "page") value) (content_at value)
+      (member_content (get (codes "content") value)))
+  form_is forms.File value passed =
+      such_if Such
+      (has_exactly (codes "expire_at" ∷ codes "go_live_at" ∷ codes "page" ∷ []) value)
+      (filing_of (id_at (codes "page") value) (time_at (codes "go_live_at") value)
+      (time_at (codes "expire_at") value))
+      (filing_is (id_at (codes "page") value) (time_at (codes "go_live_at") value)
+      (time_at (codes "expire_at") value) (member_time (get (codes "go_live_at") value))
+      (member_time (get (codes "expire_at") value)))
   form_is forms.DefineUser value passed =
       such_if Such (has_exactly (codes "digest" ∷ codes "superuser" ∷ []) value)
       (user_definition_of (digest_at value) (truth_at (codes "superuser") value))
@@ -275,8 +311,10 @@ module _ (Such : Command → Type 0) (test : CommandForm → Bool) (hold : Holds
   -- a read asks for no command
   read_is : (form : ReadForm) (id : Option ℕ) →
       AsksSuch Such (or_fault (option_map (read_call form) id) Form)
-  read_is Card (Some id) = tt
-  read_is Card None = tt
+  read_is reads.Card (Some id) = tt
+  read_is reads.Card None = tt
+  read_is reads.Desk (Some id) = tt
+  read_is reads.Desk None = tt
 
   -- nor does it by any method
   get_is : (method : Method) (call : Result Call RouteFault) → AsksSuch Such call →

@@ -1,5 +1,5 @@
 -- A command that a request can ask for fits: its slug is by the rule of slugs, its content within
--- its limits, and its digest has its bytes.
+-- its limits, its moments are moments, and its digest has its bytes.
 use Rattle.std.proofs.Common.{◌≡◌, ℕ, true, Ok, refl}
 use Rattle.site_types.specs.declared.command.Command.{Command}
 use Rattle.site_model.specs.Laws.{FitsCommand}
@@ -35,6 +35,8 @@ all_fit = record {
   creation = λ parent slug content is fits. (is, fits);
   moving = λ page target position. tt;
   naming = λ page slug is. is;
+  saving = λ page content fits. fits;
+  filing = λ page go_live expire live ends. (live, ends);
   on_page = λ verb page passed. verb_fits verb page;
   user = λ digest superuser is. is;
   group = tt;

@@ -1,6 +1,6 @@
 pub mod TranscriptLemmas
+pub mod TimeLemmas
 pub mod ReadLemmas
 pub mod AskedLemmas
 pub mod BuiltLemmas
 pub mod FitLemmas
-pub mod LiveLemmas

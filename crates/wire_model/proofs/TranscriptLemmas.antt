@@ -3,23 +3,25 @@ use Rattle.std.proofs.Common.{◌≡◌, ◌≤◌, ◌+◌, ℕ, Bool, true, fa
 use Rattle.std.proofs.lemmas.Bool.{cases_lt}
 use Rattle.std.proofs.lemmas.List.{append-nil}
 use Rattle.std.specs.Prelude.{IsSome, IfSome, IsTrue}
+use Rattle.site_types.specs.Content.{ContentValue}
 use Rattle.site_types.specs.declared.command.Command.{Command}
 use Rattle.site_types.specs.declared.entry.Entry.{Entry}
 use Rattle.site_types.specs.declared.refusal.Refusal.{Refusal}
 use Rattle.site_types.specs.declared.reply.Reply.{Reply}
 use Rattle.site_history.specs.History.{Tally, Item, tick, tick_all, AllMayStand, decide}
 use Rattle.site_model.specs.World.{World}
+use Rattle.site_model.specs.Desks.{text_at}
 use Rattle.site_model.specs.Step.{is_built}
 use Rattle.http_model.specs.Requests.{Request, whole, IsFront}
 use Rattle.http_model.proofs.FrontLemmas.{one_front}
 use Rattle.http_model.proofs.FinalLemmas.{final_stays}
 use Rattle.public_view.specs.declared.card.Card.{Card}
 use Rattle.wire_model.specs.declared.call.Call.{Call}
-use Rattle.wire_model.specs.declared.call.Call.TheVariants.{Run, Page, Public}
+use Rattle.wire_model.specs.declared.call.Call.TheVariants.{Run, Page, Desk, Public}
 use Rattle.wire_model.specs.declared.call.RouteFault.{RouteFault}
-use Rattle.wire_model.specs.Cards.{card_of}
+use Rattle.sight_model.specs.Cards.{card_of, answer_of}
 use Rattle.wire_model.specs.Routes.{call_of}
-use Rattle.wire_model.specs.Exchange.{Past, IsLegal, decider, tally_of, user_of, entry_of, Outcome, decided, run, card_told, called, called_by, called_with, asked, exchange}
+use Rattle.wire_model.specs.Exchange.{Past, IsLegal, decider, tally_of, user_of, entry_of, Outcome, decided, run, card_told, desk_told, public_told, called, called_by, called_with, asked, exchange}
 use Rattle.wire_model.specs.Transcript.{Told, outcome, after_told, EndsWhereClosing, Follows, closes, HasMoments}
 use Rattle.wire_model.specs.Laws.{AsksNothing}
 
@@ -48,12 +50,23 @@ card_legal : (tally : Tally World) (id : ℕ) (card : Option Card) →
 card_legal tally id (Some card) = tt
 card_legal tally id None = tt
 
+-- the text of a desk adds nothing
+desk_legal : (tally : Tally World) (text : Option ContentValue) → AddsLegal tally (desk_told text)
+desk_legal tally (Some text) = tt
+desk_legal tally None = tt
+
+-- nor does a page for everybody
+public_legal : (tally : Tally World) (card : Option Card) → AddsLegal tally (public_told card)
+public_legal tally (Some card) = tt
+public_legal tally None = tt
+
 -- a call by a user is added legally
 called_legal : (tally : Tally World) (user moment : ℕ) (call : Call) →
     AddsLegal tally (called tally user moment call)
 called_legal tally user moment (Run command) = run_legal tally user moment command _ refl
 called_legal tally user moment (Page id) = card_legal tally id (card_of tally.world id)
-called_legal tally user moment (Public url) = tt
+called_legal tally user moment (Desk id) = desk_legal tally (text_at tally.world.desks id user)
+called_legal tally user moment (Public url) = public_legal tally (answer_of tally.world url)
 
 -- so is a call whose user is known or not
 called_by_legal : (tally : Tally World) (moment : ℕ) (call : Call) (user : Option ℕ) →
@@ -68,7 +81,10 @@ called_with_legal tally moment token (Run command) =
     called_by_legal tally moment (Run command) (user_of tally.world token)
 called_with_legal tally moment token (Page id) =
     called_by_legal tally moment (Page id) (user_of tally.world token)
-called_with_legal tally moment token (Public url) = tt
+called_with_legal tally moment token (Desk id) =
+    called_by_legal tally moment (Desk id) (user_of tally.world token)
+called_with_legal tally moment token (Public url) =
+    public_legal tally (answer_of tally.world url)
 
 -- so is what a request asks for
 asked_legal : (tally : Tally World) (moment : ℕ) (token : Option (List ℕ))

@@ -8,7 +8,9 @@ use Rattle.http_model.specs.declared.status.StatusCode.{StatusCode}
 use Rattle.http_model.specs.declared.status.StatusCode.TheVariants as statuses
 use Rattle.http_model.specs.Responses.{Response, status_number}
 use Rattle.civil_time.specs.TimeText.{time_text}
+use Rattle.json_model.specs.Content.{block_data, content_data}
 use Rattle.public_view.specs.declared.card.Card.{Card}
+use Rattle.public_view.specs.declared.kid.LiveKid.{LiveKid}
 use Rattle.site_types.specs.Refusal.{refusal_number, refusal_name, refusal_carried}
 use Rattle.site_types.specs.declared.body.Body.{Body}
 use Rattle.site_types.specs.declared.moderation.Moderation.{Moderation}
@@ -19,7 +21,7 @@ use Rattle.site_types.specs.declared.refusal.Refusal.TheVariants.{NoPage, Denied
 use Rattle.site_types.specs.declared.reply.Reply.{Reply}
 use Rattle.site_types.specs.declared.reply.Reply.TheVariants as replies
 use Rattle.wire_model.specs.declared.answer.Answer.{Answer}
-use Rattle.wire_model.specs.declared.answer.Answer.TheVariants.{Accepted, Page, Refused, NotFound, NotBuilt, Method, Form, NoUser, Head, Memory}
+use Rattle.wire_model.specs.declared.answer.Answer.TheVariants.{Accepted, Public, Page, Desk, Refused, NotFound, NotBuilt, Method, Form, NoUser, Head, Memory}
 
 -- a whole number
 abbrev pub whole : ℕ → Data
@@ -117,6 +119,21 @@ card_data card =
     (member (codes "unpublished_changes") (boolean (has_unpublished_changes body body.latest))
     (member (codes "url") (string card.url) no_members)))))))))))))))))))))
 
+-- what a public page tells of a live kid
+abbrev pub kid_data : LiveKid → Data
+kid_data kid =
+    object (member (codes "id") (whole kid.id) (member (codes "title") (string kid.title)
+    (member (codes "url") (string kid.url) no_members)))
+
+-- the body of a public page
+abbrev pub public_data : Card → Data
+public_data card =
+    object (member (codes "blocks") (array (items_of (map block_data card.blocks)))
+    (member (codes "children") (array (items_of (map kid_data card.kids)))
+    (member (codes "id") (whole card.id)
+    (member (codes "title") (string card.title)
+    (member (codes "url") (string card.url) no_members)))))
+
 -- the member with the value that a refusal carries, where it carries one
 abbrev pub carried_member : Option ℕ → Members
 carried_member None = no_members
@@ -164,7 +181,9 @@ plain_response status body = record { status = status; body = compact_text body;
 -- the response to an answer
 unfoldable pub response_of : Answer → Response
 response_of (Accepted entry reply) = plain_response statuses.Ok (reply_data entry reply)
+response_of (Public card) = plain_response statuses.Ok (public_data card)
 response_of (Page card) = plain_response statuses.Ok (card_data card)
+response_of (Desk text) = plain_response statuses.Ok (content_data text)
 response_of (Refused refusal) = plain_response (refusal_status refusal) (refusal_data refusal)
 response_of NotFound = plain_response statuses.NotFound (error_data (codes "NotFound"))
 response_of NotBuilt = plain_response statuses.NotImplemented (error_data (codes "NotBuilt"))

@@ -1,10 +1,11 @@
 -- The exchange of one request: which answer it gets after a history, and what that adds to it.
 use Rattle.std.specs.Prelude.{ℕ, ◌+◌, List, [], ◌∷◌, ◌++◌, Option, Some, None, Result, Ok, Err, if◌then◌else◌}
 use Rattle.sha2.specs.Sha256.{sha256}
+use Rattle.site_types.specs.Content.{ContentValue}
 use Rattle.site_types.specs.declared.command.Command.{Command}
 use Rattle.site_types.specs.declared.entry.Entry.{Entry}
 use Rattle.site_types.specs.declared.refusal.Refusal.{Refusal}
-use Rattle.site_types.specs.declared.refusal.Refusal.TheVariants.{NoPage, LogFull}
+use Rattle.site_types.specs.declared.refusal.Refusal.TheVariants.{NoPage, NoDesk, LogFull}
 use Rattle.site_types.specs.declared.reply.Reply.{Reply}
 use Rattle.site_history.specs.Log.{no_log}
 use Rattle.site_history.specs.History.{Tally, History, Item, Decider, accepted}
@@ -12,16 +13,17 @@ use Rattle.site_history.specs.History as histories
 use Rattle.site_model.specs.World.{World}
 use Rattle.site_model.specs.Rights as rights
 use Rattle.site_model.specs.Sound.{IsSound}
+use Rattle.site_model.specs.Desks.{text_at}
 use Rattle.site_model.specs.Step.{is_built, step}
 use Rattle.http_model.specs.Requests.{Request}
 use Rattle.public_view.specs.declared.card.Card.{Card}
 use Rattle.wire_model.specs.declared.answer.Answer.{Answer}
 use Rattle.wire_model.specs.declared.answer.Answer.TheVariants as answers
 use Rattle.wire_model.specs.declared.call.Call.{Call}
-use Rattle.wire_model.specs.declared.call.Call.TheVariants.{Run, Page, Public}
+use Rattle.wire_model.specs.declared.call.Call.TheVariants.{Run, Page, Desk, Public}
 use Rattle.wire_model.specs.declared.call.RouteFault.{RouteFault}
 use Rattle.wire_model.specs.declared.call.RouteFault.TheVariants as faults
-use Rattle.sight_model.specs.Cards.{card_of}
+use Rattle.sight_model.specs.Cards.{card_of, answer_of}
 use Rattle.wire_model.specs.Routes.{call_of}
 
 -- a history of the site
@@ -91,11 +93,22 @@ abbrev pub card_told : ℕ → Option Card → Outcome
 card_told id (Some card) = telling (answers.Page card)
 card_told id None = telling (answers.Refused (NoPage id))
 
--- what a call by a user comes to; no page is live yet, so that none is for everybody
+-- what is written at the caller's desk on a page, or that the caller has none there
+abbrev pub desk_told : Option ContentValue → Outcome
+desk_told (Some text) = telling (answers.Desk text)
+desk_told None = telling (answers.Refused NoDesk)
+
+-- the card of the page that everybody may read at a URL, or that there is none
+abbrev pub public_told : Option Card → Outcome
+public_told (Some card) = telling (answers.Public card)
+public_told None = telling answers.NotFound
+
+-- what a call by a user comes to
 abbrev pub called : Tally World → ℕ → ℕ → Call → Outcome
 called tally user moment (Run command) = run tally user moment command
 called tally user moment (Page id) = card_told id (card_of tally.world id)
-called tally user moment (Public url) = telling answers.NotFound
+called tally user moment (Desk id) = desk_told (text_at tally.world.desks id user)
+called tally user moment (Public url) = public_told (answer_of tally.world url)
 
 -- what a call comes to, where its user is known or not
 abbrev pub called_by : Tally World → ℕ → Call → Option ℕ → Outcome
@@ -104,7 +117,7 @@ called_by tally moment call None = telling answers.NoUser
 
 -- what a call comes to: what is for everybody asks for no token
 abbrev pub called_with : Tally World → ℕ → Option (List ℕ) → Call → Outcome
-called_with tally moment token (Public url) = telling answers.NotFound
+called_with tally moment token (Public url) = public_told (answer_of tally.world url)
 called_with tally moment token call = called_by tally moment call (user_of tally.world token)
 
 -- the answer to a request that asks nothing of the site

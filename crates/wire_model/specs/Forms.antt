@@ -10,7 +10,7 @@ use Rattle.site_types.specs.Content.{ContentValue}
 use Rattle.site_types.specs.declared.command.Command.{Command}
 use Rattle.site_ids.specs.declared.digest.TheConstants.{DIGEST_BYTES}
 use Rattle.site_ids.specs.declared.ids.TheConstants.{LAST_USER_ID, LAST_GROUP_ID}
-use Rattle.site_types.specs.declared.command.Command.TheVariants.{Create, Move, Delete, SetSlug, Detach, OpenDesk, ShutDesk, Publish, Unpublish, Unschedule, Lock, Unlock, Purge, Submit, Approve, Reject, Cancel, DefineUser, DefineGroup, Member, Grant}
+use Rattle.site_types.specs.declared.command.Command.TheVariants.{Create, Move, Delete, SetSlug, Detach, OpenDesk, SaveDesk, ShutDesk, File, Publish, Unpublish, Unschedule, Lock, Unlock, Purge, Submit, Approve, Reject, Cancel, DefineUser, DefineGroup, Member, Grant}
 use Rattle.site_types.specs.declared.permission.Permission.{Permission}
 use Rattle.site_types.specs.declared.position.Position.{Position}
 use Rattle.wire_model.specs.declared.form.CommandForm.{CommandForm}
@@ -19,6 +19,7 @@ use Rattle.wire_model.specs.declared.form.PageVerb.{PageVerb}
 use Rattle.wire_model.specs.declared.form.PageVerb.TheVariants as verbs
 use Rattle.wire_model.specs.declared.names.TheConstants.{POSITIONS, PERMISSIONS}
 use Rattle.wire_model.specs.Tables.{named}
+use Rattle.wire_model.specs.Times.{time_at}
 
 -- the text of a body: no bytes are read as an empty object
 abbrev pub text_of_body : List ℕ → List ℕ
@@ -143,6 +144,31 @@ page_command_in verb value =
     then option_map (command_on verb) (id_at (codes "page") value)
     else None
 
+-- the saving of this text at the caller's desk on this page
+abbrev pub saving_of : Option ℕ → Option ContentValue → Option Command
+saving_of (Some page) (Some content) = Some (SaveDesk page content)
+saving_of page content = None
+
+-- the saving that an object asks for: it has exactly the members content and page
+abbrev pub saving_in : Data → Option Command
+saving_in value =
+    if has_exactly (codes "content" ∷ codes "page" ∷ []) value
+    then saving_of (id_at (codes "page") value) (content_at value)
+    else None
+
+-- the filing of the text at the caller's desk on this page with these moments, which may be absent
+abbrev pub filing_of : Option ℕ → Option (Option ℕ) → Option (Option ℕ) → Option Command
+filing_of (Some page) (Some go_live) (Some expire) = Some (File page go_live expire)
+filing_of page go_live expire = None
+
+-- the filing that an object asks for: it has exactly the members expire_at, go_live_at and page
+abbrev pub filing_in : Data → Option Command
+filing_in value =
+    if has_exactly (codes "expire_at" ∷ codes "go_live_at" ∷ codes "page" ∷ []) value
+    then filing_of (id_at (codes "page") value) (time_at (codes "go_live_at") value)
+    (time_at (codes "expire_at") value)
+    else None
+
 -- the change of this page's slug to this one
 abbrev pub slug_change_of : Option ℕ → Option (List ℕ) → Option Command
 slug_change_of (Some page) (Some slug) = Some (SetSlug page slug)
@@ -203,6 +229,8 @@ command_in forms.Create value = creation_in value
 command_in forms.Move value = move_in value
 command_in forms.SetSlug value = slug_change_in value
 command_in (forms.OnPage verb) value = page_command_in verb value
+command_in forms.Save value = saving_in value
+command_in forms.File value = filing_in value
 command_in forms.DefineUser value = user_definition_in value
 command_in forms.DefineGroup value = group_definition_in value
 command_in forms.Member value = membership_in value

@@ -1,10 +1,12 @@
--- The laws of transcripts, each proved in src/laws.rt.
-use Rattle.std.specs.Prelude.{◌≡◌, ℕ, ◌≤◌, List, ◌++◌, length, Option, IsSome, IsTrue, Ok}
+-- The laws of transcripts and of what requests ask for, each proved in src/laws.rt.
+use Rattle.std.specs.Prelude.{◌≡◌, ◌↔◌, ℕ, ◌≤◌, List, ◌++◌, length, Option, Some, IsSome, IsTrue, Ok}
 use Rattle.site_types.specs.declared.command.Command.{Command}
 use Rattle.site_model.specs.Laws.{FitsCommand}
 use Rattle.site_model.specs.Step.{is_built}
 use Rattle.http_model.specs.Requests.{Request, whole, IsFront}
 use Rattle.wire_model.specs.declared.call.Call.TheVariants.{Run}
+use Rattle.civil_time.specs.TimeText.{IsTimeText}
+use Rattle.wire_model.specs.Times.{time_of}
 use Rattle.wire_model.specs.Routes.{call_of}
 use Rattle.wire_model.specs.Exchange.{Past, IsLegal}
 use Rattle.wire_model.specs.Transcript.{Told, Follows, HasMoments, closes}
@@ -79,8 +81,13 @@ RoutesAreBuilt =
     call_of request ≡ Ok (Run command) → IsTrue (is_built command)
 
 -- each command that a request can ask for fits: its slug is by the rule of slugs, its content is
--- within its limits, and its digest has its bytes
+-- within its limits, its moments are moments, and its digest has its bytes
 abbrev pub RoutesFit : Type 0
 RoutesFit =
     (request : Request) (command : Command) →
     call_of request ≡ Ok (Run command) → FitsCommand command
+
+-- a text is read as a moment exactly if it is that moment's text
+abbrev pub TimesAreTexts : Type 0
+TimesAreTexts =
+    (text : List ℕ) (moment : ℕ) → (time_of text ≡ Some moment) ↔ IsTimeText text moment

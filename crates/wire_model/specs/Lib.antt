@@ -1,7 +1,7 @@
 pub mod Tables
+pub mod Times
 pub mod Forms
 pub mod Routes
-pub mod Cards
 pub mod Answers
 pub mod Exchange
 pub mod Transcript

@@ -12,12 +12,12 @@ use Rattle.http_model.specs.Requests.{Request}
 use Rattle.json_model.specs.Members.{is_within}
 use Rattle.site_ids.specs.declared.ids.TheConstants.{LAST_PAGE_ID}
 use Rattle.wire_model.specs.declared.call.Call.{Call}
-use Rattle.wire_model.specs.declared.call.Call.TheVariants.{Run, Page, Public}
+use Rattle.wire_model.specs.declared.call.Call.TheVariants.{Run, Page, Desk, Public}
 use Rattle.wire_model.specs.declared.call.RouteFault.{RouteFault}
 use Rattle.wire_model.specs.declared.call.RouteFault.TheVariants.{NotFound, NotBuilt, Method as WrongMethod, Form}
 use Rattle.wire_model.specs.declared.form.CommandForm.{CommandForm}
 use Rattle.wire_model.specs.declared.form.ReadForm.{ReadForm}
-use Rattle.wire_model.specs.declared.form.ReadForm.TheVariants.{Card}
+use Rattle.wire_model.specs.declared.form.ReadForm.TheVariants as reads
 use Rattle.wire_model.specs.declared.routes.TheConstants.{COMMAND_ROUTES, READ_ROUTES}
 use Rattle.wire_model.specs.declared.words.TheConstants.{API, API_FRONT, MAX_ID_DIGITS}
 use Rattle.wire_model.specs.Tables.{named}
@@ -123,7 +123,8 @@ by_get method call = Err (WrongMethod allows.Get)
 
 -- the call that reads a form of a page
 abbrev pub read_call : ReadForm → ℕ → Call
-read_call Card id = Page id
+read_call reads.Card id = Page id
+read_call reads.Desk id = Desk id
 
 -- what a request asks for on a route: the method is tried first, and then the form
 abbrev pub call_on : Route → Request → Result Call RouteFault

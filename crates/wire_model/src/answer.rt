@@ -1,16 +1,20 @@
 //! Answers to requests.
 use http_model::Allow;
 use public_view::Card;
-use site_types::{Refusal, Reply};
+use site_types::{Content, Refusal, Reply};
 
 /// The answer to a request.
 #[derive(Debug, Drop)]
 pub enum Answer {
     /// The command was accepted as the entry with this number.
     Accepted(u64, Reply),
+    /// The page that everybody may read at a URL, by its card.
+    Public(Card),
     /// The card of a page.
     Page(Card),
-    /// The command was refused, or the page that is read does not exist.
+    /// What is written at the caller's desk on a page.
+    Desk(Content),
+    /// The command was refused, or the page or the desk that is read does not exist.
     Refused(Refusal),
     /// The path has no route, or no page that everybody may read.
     NotFound,

@@ -11,6 +11,10 @@ pub enum CommandForm {
     SetSlug,
     /// A command on a page that nothing else is named for: page.
     OnPage(PageVerb),
+    /// The saving of the text at a desk: content and page.
+    Save,
+    /// The filing of the text at a desk: expire_at, go_live_at and page.
+    File,
     /// The definition of a user: digest and superuser.
     DefineUser,
     /// The definition of a group: no members.
@@ -59,4 +63,6 @@ pub enum PageVerb {
 pub enum ReadForm {
     /// The card of the page.
     Card,
+    /// The caller's desk on the page.
+    Desk,
 }

@@ -1,5 +1,5 @@
-//! Laws of transcripts. Each is a function that does nothing: its contract is the law.
-ghost use Rattle.wire_model.specs.Laws.{TranscriptStays, TranscriptKeepsLegal, LongerBeginsWithShorter, OneTranscript, NothingAskedIsLast, ClosingIsLast, RoutesAreBuilt, RoutesFit};
+//! Laws of transcripts and of what requests ask for. Each is a function that does nothing: its contract is the law.
+ghost use Rattle.wire_model.specs.Laws.{TranscriptStays, TranscriptKeepsLegal, LongerBeginsWithShorter, OneTranscript, NothingAskedIsLast, ClosingIsLast, RoutesAreBuilt, RoutesFit, TimesAreTexts};
 
 /// A transcript stays one when more bytes follow.
 pub fn transcript_stays()
@@ -39,4 +39,9 @@ pub fn routes_are_built()
 /// Each command that a request can ask for fits.
 pub fn routes_fit()
     ensures { RoutesFit }
+{}
+
+/// A text is read as a moment exactly if it is that moment's text.
+pub fn times_are_texts()
+    ensures { TimesAreTexts }
 {}

@@ -5,4 +5,8 @@
 #[cfg(test)]
 mod fronts;
 #[cfg(test)]
+mod posts;
+#[cfg(test)]
+mod responses;
+#[cfg(test)]
 mod routes;

@@ -1,5 +1,5 @@
 -- What a request comes to, by what it asks for.
-use Rattle.std.proofs.Common.{◌≡◌, ℕ, List, Some, Result, Ok, Err, IfOk, refl, sym, ap, ◌∙◌}
+use Rattle.std.proofs.Common.{◌≡◌, ℕ, Result, Ok, Err, IfOk, refl, sym, ap, ◌∙◌}
 use Rattle.http_model.specs.Requests.{Request}
 use Rattle.site_history.specs.History.{Tally}
 use Rattle.site_model.specs.World.{World}
@@ -8,9 +8,7 @@ use Rattle.wire_model.specs.declared.answer.Answer.{Answer}
 use Rattle.wire_model.specs.declared.call.Call.{Call}
 use Rattle.wire_model.specs.declared.call.RouteFault.{RouteFault}
 use Rattle.wire_model.specs.declared.call.RouteFault.TheVariants.{Memory}
-use Rattle.sight_model.specs.Cards.{live_page}
 use Rattle.wire_model.specs.Routes.{call_of}
-use Rattle.sight_model.proofs.LiveLemmas.{no_live_page}
 use Rattle.wire_model.specs.Exchange.{telling, called_with, fault_answer, exchange}
 use Rattle.pagetree_session.specs.declared.memory_site.MemorySite.{MemorySite}
 use Rattle.pagetree_session.specs.Standing.{IsReady, Answers}
@@ -40,10 +38,3 @@ answers_fault site tally request moment fault (Ok answer) ready is told =
     (exchange_fault tally request moment fault (is told.1) ∙ ap telling (sym told.0)) ready.stands
     ready.reached
 answers_fault site tally request moment fault (Err none) ready is told = tt
-
--- no page is found for everybody
-pub nothing_live : (site : MemorySite) (tally : Tally World) (url : List ℕ) (id : ℕ) →
-    IsReady site tally → Some id ≡ live_page tally.world url → ⊥
-nothing_live site tally url id ready is =
-    let none = no_live_page tally.world url ready.reached.none_yet.drafts in
-    absurd (cc)

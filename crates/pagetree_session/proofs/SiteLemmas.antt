@@ -1,9 +1,10 @@
 -- What the site in memory stands for after a command, by how it went.
-use Rattle.std.proofs.Common.{◌≡◌, ◌+◌, ℕ, true, false, [], ◌∷◌, Ok, Err, IfOk, refl, sym, ap, subst, arith}
+use Rattle.std.proofs.Common.{◌≡◌, ◌+◌, ℕ, true, false, List, [], ◌∷◌, Ok, Err, IfOk, refl, sym, ap, subst, ◌∙◌, arith}
 use Rattle.site_types.specs.declared.command.Command.{Command}
 use Rattle.site_types.specs.declared.entry.Entry.{Entry}
 use Rattle.site_types.specs.declared.refusal.Refusal.{Refusal}
 use Rattle.site_types.specs.declared.reply.Reply.{Reply}
+use Rattle.site_types.specs.declared.world_rows.DeskRow.{DeskRow}
 use Rattle.site_history.specs.History.{Tally, accepted}
 use Rattle.site_ids.specs.Moment.{IsMoment}
 use Rattle.site_model.specs.World.{World}
@@ -11,10 +12,11 @@ use Rattle.site_model.specs.Laws.{FitsCommand}
 use Rattle.site_model.specs.Reached.{IsReached}
 use Rattle.site_model.specs.Step.{is_built, step, step_at}
 use Rattle.site_model.proofs.ReachedSound.{step_keeps_reached}
-use Rattle.grants.specs.Standing as parts
+use Rattle.grants.proofs.StandingLemmas.{stands_seen, seen_stands, same_seen}
 use Rattle.grants.specs.declared.fault.Fault.{Fault}
 use Rattle.grants.specs.declared.fault.Fault.TheVariants as faults
 use Rattle.site_core.specs.Standing as cores
+use Rattle.site_core.specs.Texts.{AreDesks}
 use Rattle.site_core.specs.declared.state.Core.{Core}
 use Rattle.wire_model.specs.declared.answer.Answer.{Answer}
 use Rattle.wire_model.specs.declared.answer.Answer.TheVariants.{Accepted, Refused, NotBuilt}
@@ -28,29 +30,14 @@ pub core_ready : (site : MemorySite) (tally : Tally World) → IsReady site tall
 core_ready site tally ready = record { stands = ready.stands.core; reached = ready.reached }
 
 -- where all but the room is as it was, it stands for what it stood for
-pub same_stands : (before after : Core) (world : World) → parts.IsSame before.tree after.tree →
+pub same_stands : (before after : Core) (world : World) → cores.IsSame before after →
     cores.StandsFor before world → cores.StandsFor after world
 same_stands before after world same stands =
-    let tree = stands.tree in
-    let lists = tree.lists in
     record {
-      tree = record {
-        pages = rw same.pages tree.pages;
-        revisions = rw same.revisions tree.revisions;
-        lists = record {
-          users = rw same.lists.users lists.users;
-          groups = rw same.lists.groups lists.groups;
-          members = rw same.lists.members lists.members;
-          grants = rw same.lists.grants lists.grants;
-        };
-        no_tasks = tree.no_tasks;
-        no_workflows = tree.no_workflows;
-        no_desks = tree.no_desks;
-        time = rw same.time tree.time;
-        next_page = rw same.next_page tree.next_page;
-        next_revision = rw same.next_revision tree.next_revision;
-      };
-      no_desks = stands.no_desks;
+      tree = seen_stands after.tree world.part (same_seen before.tree after.tree same.tree
+          ∙ stands_seen before.tree world.part stands.tree);
+      desks = subst (λ (lists : List (List DeskRow)). AreDesks lists world.desks) (sym same.desks)
+          stands.desks;
     }
 
 -- an answer that adds nothing leaves the site as it stands
@@ -95,7 +82,7 @@ module _ (tally : Tally World) (user moment : ℕ) (command : Command) where
   pub answers_fault_told : (before : MemorySite) (core : Core) (fault : Fault) →
       is_built command ≡ true → IsReady before tally →
       cores.Prepares tally.world moment user command core (Err fault) →
-      parts.IsSame before.core.tree core.tree →
+      cores.IsSame before.core core →
       IfOk (fault_answered fault)
       (λ answer. Answers tally (run tally user moment command) answer
       (record { core = core; number = before.number }))

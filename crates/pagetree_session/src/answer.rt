@@ -3,11 +3,12 @@ ghost use Rattle.std.specs.Prelude.{◌≡◌, ◌<◌, IfOk, OnErr};
 ghost use Rattle.std.specs.Option.{option_copied};
 ghost use Rattle.http_wire.specs.Reading.{request_of};
 ghost use Rattle.site_history.specs.History.{Tally};
+ghost use Rattle.site_model.specs.Desks.{text_at};
 ghost use Rattle.site_model.specs.Laws.{FitsCommand};
 ghost use Rattle.site_model.specs.World.{World};
 ghost use Rattle.site_types.specs.declared.command.Command.{Command as AnyCommand};
-ghost use Rattle.sight_model.specs.Cards.{card_of};
-ghost use Rattle.wire_model.specs.Exchange.{called_with, card_told};
+ghost use Rattle.sight_model.specs.Cards.{card_of, answer_of};
+ghost use Rattle.wire_model.specs.Exchange.{called_with, card_told, desk_told, public_told};
 ghost use Rattle.pagetree_session.specs.declared.session.TheConstants.{ANSWER_LIMIT};
 ghost use Rattle.wire_model.specs.Exchange as wire;
 ghost use Rattle.pagetree_session.specs.Standing.{StandsFor, IsReady, Answers, Answered, Keeps};
@@ -67,13 +68,13 @@ fn answer_call(
     ensures err { (tally : Tally World) → StandsFor site.old tally → OnErr result (StandsFor site.new tally) }
 {
     match call {
-        Call::Public(url) => match site.find(url.as_slice()) {
-            None => Ok(Answer::NotFound),
-            // No command makes a page live yet.
-            Some(_) => unreachable!(),
-        },
+        Call::Public(url) => answer_public(alloc, site, url.as_slice()),
         Call::Page(id) => match user_of(site, token) {
             Some(_) => answer_card(alloc, site, id),
+            None => Ok(Answer::NoUser),
+        },
+        Call::Desk(id) => match user_of(site, token) {
+            Some(user) => answer_desk(alloc, site, id, user),
             None => Ok(Answer::NoUser),
         },
         Call::Run(command) => match user_of(site, token) {
@@ -91,6 +92,36 @@ fn answer_card(alloc: Global, site: &MemorySite, id: PageId) -> Result<Answer, N
     match site.card(alloc, id)? {
         Some(card) => Ok(Answer::Page(card)),
         None => Ok(Answer::Refused(Refusal::NoPage(id))),
+    }
+}
+
+/// The answer to a call for the caller's desk on a page: its text is copied once.
+fn answer_desk(
+    alloc: Global,
+    site: &MemorySite,
+    page: PageId,
+    user: UserId,
+) -> Result<Answer, NoMemory>
+    ensures { (tally : Tally World) → IsReady site.now tally
+        → IfOk result (λ answer. answer ≡ (desk_told (text_at tally.world.desks page user)).answer) }
+{
+    match site.desk(page, user) {
+        Some(text) => {
+            let text = text.copy(alloc)?;
+            Ok(Answer::Desk(text))
+        }
+        None => Ok(Answer::Refused(Refusal::NoDesk)),
+    }
+}
+
+/// The answer to everybody at a URL: the card of the live page there, if there is one.
+fn answer_public(alloc: Global, site: &MemorySite, url: &[u8]) -> Result<Answer, NoMemory>
+    ensures { (tally : Tally World) → IsReady site.now tally
+        → IfOk result (λ answer. answer ≡ (public_told (answer_of tally.world url.now)).answer) }
+{
+    match site.public(alloc, url)? {
+        Some(card) => Ok(Answer::Public(card)),
+        None => Ok(Answer::NotFound),
     }
 }
 

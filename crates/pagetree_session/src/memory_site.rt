@@ -1,11 +1,13 @@
 //! The site that a session serves: what is in memory, and the number of the last entry.
 ghost use Rattle.std.specs.Prelude.{◌≡◌, ◌<◌, IfOk, OnErr};
+ghost use Rattle.std.specs.Option.{option_copied};
 ghost use Rattle.sha2.specs.Sha256.{sha256};
 ghost use Rattle.site_history.specs.History.{Tally};
+ghost use Rattle.site_model.specs.Desks.{text_at};
 ghost use Rattle.site_model.specs.Laws.{FitsCommand};
 ghost use Rattle.site_model.specs.Rights as rights;
 ghost use Rattle.site_model.specs.World.{World};
-ghost use Rattle.sight_model.specs.Cards.{card_of, live_page};
+ghost use Rattle.sight_model.specs.Cards.{card_of, answer_of};
 ghost use Rattle.pagetree_session.specs.declared.session.TheConstants.{ANSWER_LIMIT};
 ghost use Rattle.site_model.specs.Step as steps;
 ghost use Rattle.wire_model.specs.Exchange.{run};
@@ -15,7 +17,7 @@ ghost use Rattle.pagetree_session.specs.Standing.{StandsFor, IsReady, Answers, f
 use grants::Fault;
 use public_view::Card;
 use site_core::Core;
-use site_types::{Command, Digest, Moment, NoMemory, PageId, UserId};
+use site_types::{Command, Content, Digest, Moment, NoMemory, PageId, UserId};
 use std::alloc::Global;
 use wire_model::Answer;
 
@@ -80,12 +82,22 @@ impl MemorySite {
         self.core.card(alloc, id)
     }
 
-    /// The live page with this URL, or `None` exactly if there is none.
-    pub fn find(&self, url: &[u8]) -> Option<PageId>
+    /// The card of the live page with this URL, or `None` exactly if there is none.
+    ///
+    /// It costs what the site in memory takes for it.
+    pub fn public(&self, alloc: Global, url: &[u8]) -> Result<Option<Card>, NoMemory>
         ensures { (tally : Tally World) → IsReady self.now tally
-            → result ≡ live_page tally.world url.now }
+            → IfOk result (λ card. card ≡ answer_of tally.world url.now) }
     {
-        self.core.find(url)
+        self.core.public(alloc, url)
+    }
+
+    /// The text of a user's desk on a page, or `None` exactly if the user has none there.
+    pub fn desk(&self, page: PageId, user: UserId) -> Option<&Content>
+        ensures { (tally : Tally World) → IsReady self.now tally
+            → option_copied result ≡ text_at tally.world.desks page user }
+    {
+        self.core.desk(page, user)
     }
 
     /// The user with this token, or `None` exactly if there is none. It costs the digest of the
@@ -118,6 +130,15 @@ fn is_built(command: &Command) -> bool
             | Command::Move { .. }
             | Command::Delete { .. }
             | Command::SetSlug { .. }
+            | Command::OpenDesk { .. }
+            | Command::SaveDesk { .. }
+            | Command::ShutDesk { .. }
+            | Command::File { .. }
+            | Command::Publish { .. }
+            | Command::Unpublish { .. }
+            | Command::Lock { .. }
+            | Command::Unlock { .. }
+            | Command::Purge { .. }
             | Command::DefineUser { .. }
             | Command::DefineGroup
             | Command::Member { .. }

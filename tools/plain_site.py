@@ -1,0 +1,501 @@
+"""A plain site kept in Python, by the rules of the commands: what `check-trees` compares the program with.
+
+Pages are objects with their kids, rights are found by walking from the root, and every rule is tried as
+docs/API.md lists it. Nothing here is fast.
+"""
+import datetime
+import hashlib
+
+DIGITS = "0123456789ABCDEFGHIJKLMNOPQRSTUVWXYZ"
+PERMISSIONS = ["add", "change", "publish", "bulk_delete", "lock", "unlock"]
+SUPERUSER = 7
+MAX_KIDS = 1_000
+MAX_DESKS = 4_096
+
+
+def digest_of(token):
+    """The text of a token's digest."""
+    return hashlib.sha256(token.encode()).hexdigest()
+
+
+def time_text(moment):
+    """The text of a moment, or None."""
+    if moment is None:
+        return None
+    at = datetime.datetime.fromtimestamp(moment, datetime.timezone.utc)
+    return at.strftime("%Y-%m-%dT%H:%M:%SZ")
+
+
+class Refused(Exception):
+    """A rule refuses a command: its number, its name, and what it tells of."""
+
+
+class Revision:
+    """A content that was filed, by whom and when, and when it is to go live and to expire."""
+
+    def __init__(self, number, page, content, go_live=None, expire=None):
+        self.number, self.page, self.content = number, page, content
+        self.go_live, self.expire = go_live, expire
+
+
+class Page:
+    """A page with its step among its siblings, its kids in order, and what is kept of it."""
+
+    def __init__(self, number, slug, owner):
+        self.number, self.slug, self.step, self.owner = number, slug, 1, owner
+        self.kids, self.parent = [], None
+        self.live = self.expired = False
+        self.shown = self.latest = self.scheduled = None
+        self.first_published = self.last_published = None
+        self.locked_by = None
+
+    def walk(self):
+        """The pages from the root to the page."""
+        return (self.parent.walk() if self.parent else []) + [self]
+
+    def all_below(self):
+        """The page and all below it, depth first."""
+        found = [self]
+        for kid in self.kids:
+            found += kid.all_below()
+        return found
+
+    def path(self):
+        """The text of the page's path."""
+        above = self.parent.path() if self.parent else ""
+        text, step = "", self.step
+        for _ in range(4):
+            step, digit = divmod(step, 36)
+            text = DIGITS[digit] + text
+        return above + text
+
+    def url(self):
+        """The page's URL."""
+        return self.parent.url() + self.slug + "/" if self.parent else "/"
+
+    def content(self):
+        """What the page shows."""
+        return self.shown.content if self.shown else {"blocks": [], "title": "Root"}
+
+    def is_any_live(self):
+        """Whether the page or one below it is live."""
+        return any(page.live for page in self.all_below())
+
+    def kid_named(self, slug):
+        """The kid with the slug, or None."""
+        return next((kid for kid in self.kids if kid.slug == slug), None)
+
+    def put(self, page, place, step=None):
+        """Puts a page among the kids: at the end, or before a kid with its step (or this one)."""
+        later = self.kids[place:]
+        last = self.kids[-1].step if self.kids else 0
+        page.step = (step or later[0].step) if later else last + 1
+        for kid in later:
+            kid.step += 1
+        self.kids.insert(place, page)
+        page.parent = self
+
+
+def kind_of(goal, beside):
+    """How a target stands: among its siblings, or with or without kids."""
+    if not beside:
+        return "kids" if goal.kids else "no kids"
+    around = goal.parent.kids
+    if len(around) == 1:
+        return "only"
+    return {0: "first", len(around) - 1: "last"}.get(around.index(goal), "middle")
+
+
+class Site:
+    """The plain tree with its users, revisions and desks, by the rules of the commands."""
+
+    def __init__(self, token):
+        self.root = Page(1, "", 0)
+        self.pages, self.entry, self.next = {1: self.root}, 0, 2
+        self.users, self.groups = [(digest_of(token), True)], 0
+        self.members, self.grants = set(), set()
+        self.revisions, self.next_revision = {}, 1
+        self.desks = {}
+        self.time = self.now = 0
+        self.caller, self.seen, self.refusals = 1, set(), {}
+
+    # -- users and rights
+
+    def user_of(self, token):
+        """The number of the user with the token, or None."""
+        numbers = [n for n, (digest, _) in enumerate(self.users, 1) if digest == digest_of(token)]
+        return numbers[0] if numbers else None
+
+    def is_super(self, user=None):
+        """Whether a user, or the caller, is a superuser."""
+        return self.users[(user or self.caller) - 1][1]
+
+    def holds(self, permission, page, user=None):
+        """Whether a user, or the caller, holds a permission at a page."""
+        user = user or self.caller
+        groups = [group for member, group in self.members if member == user]
+        return self.is_super(user) or any(
+            (above.number, group, permission) in self.grants
+            for above in page.walk() for group in groups
+        )
+
+    def may_edit(self, page, user=None):
+        """Whether a user, or the caller, meets the need to edit a page."""
+        user = user or self.caller
+        own = self.holds("add", page, user) and page.owner == user
+        return self.holds("change", page, user) or own
+
+    def need(self, met, name):
+        """Refuses the caller who does not meet a need."""
+        if not met and not self.is_super():
+            self.seen.add(("need", name))
+            number = SUPERUSER if name == "superuser" else PERMISSIONS.index(name) + 1
+            raise Refused(3, "Denied", number)
+
+    def need_to_take(self, page):
+        """Refuses the caller who may not take a page away with all below it."""
+        own = all(one.owner == self.caller for one in page.all_below())
+        self.need(self.holds("change", page) or (self.holds("add", page) and own), "change")
+        self.need(not page.is_any_live() or self.holds("publish", page), "publish")
+
+    def named(self, user=1, group=1):
+        """Refuses a user or a group that is not there."""
+        if not 1 <= user <= len(self.users):
+            raise Refused(19, "NoName", 1)
+        if not 1 <= group <= self.groups:
+            raise Refused(19, "NoName", 2)
+
+    # -- pages, and the rules that many commands have
+
+    def find(self, number):
+        """The page with the number."""
+        if number not in self.pages:
+            raise Refused(1, "NoPage", number)
+        return self.pages[number]
+
+    def below_root(self, number):
+        """The page with the number, which is not the root."""
+        page = self.find(number)
+        if page is self.root:
+            raise Refused(2, "IsRoot")
+        return page
+
+    def stop_locked(self, page):
+        """Refuses the caller whom another's lock stops."""
+        if page.locked_by not in (None, self.caller):
+            raise Refused(4, "Locked", page.locked_by)
+
+    def stop_taken(self, above, slug, moved=None):
+        """Refuses a slug that a kid has."""
+        taken = next((kid for kid in above.kids if kid.slug == slug and kid is not moved), None)
+        if taken:
+            raise Refused(8, "SlugTaken", taken.number)
+
+    def own_desk(self, number):
+        """The text of the caller's desk on the page."""
+        user, text = self.desks.get(number, (None, None))
+        if user != self.caller:
+            raise Refused(13, "NoDesk")
+        return text
+
+    def moment(self):
+        """The moment of the command that runs: the world's time never falls."""
+        return max(self.time, self.now)
+
+    def replied(self, page):
+        """The reply of a command to a page."""
+        return {"id": page.number, "path": page.path(), "url": page.url()}
+
+    def file_revision(self, page, content, go_live=None, expire=None):
+        """A new latest revision of a page."""
+        revision = Revision(self.next_revision, page.number, content, go_live, expire)
+        self.revisions[revision.number] = revision
+        self.next_revision += 1
+        page.latest = revision
+        return revision
+
+    # -- commands on users and groups
+
+    def users_post(self, digest, superuser):
+        """A user is defined."""
+        self.need(self.is_super(), "superuser")
+        if any(digest == known for known, _ in self.users):
+            raise Refused(15, "NothingNew")
+        self.users.append((digest, superuser))
+        return {"id": len(self.users)}
+
+    def groups_post(self):
+        """A group is defined."""
+        self.need(self.is_super(), "superuser")
+        self.groups += 1
+        return {"id": self.groups}
+
+    def set_in(self, items, item, on, **names):
+        """An item that comes or goes."""
+        if (item in items) == on:
+            raise Refused(15, "NothingNew")
+        self.named(**names)
+        items.add(item) if on else items.remove(item)
+        return {}
+
+    def members_post(self, user, group, on):
+        """A membership begins or ends."""
+        self.need(self.is_super(), "superuser")
+        return self.set_in(self.members, (user, group), on, user=user, group=group)
+
+    def grants_post(self, group, page, permission, on):
+        """A grant is given or withdrawn."""
+        self.find(page)
+        self.need(self.is_super(), "superuser")
+        return self.set_in(self.grants, (page, group, permission), on, group=group)
+
+    # -- commands on the tree
+
+    def pages_post(self, parent, slug, content):
+        """A page is made."""
+        above = self.find(parent)
+        self.need(self.holds("add", above), "add")
+        self.stop_taken(above, slug)
+        page = Page(self.next, slug, self.caller)
+        above.put(page, len(above.kids))
+        self.pages[page.number] = page
+        self.next += 1
+        page.shown = self.file_revision(page, content)
+        return self.replied(page)
+
+    def move_post(self, page, target, position):
+        """A page is moved."""
+        moved, goal = self.find(page), self.find(target)
+        beside = position.endswith(("sibling", "left", "right"))
+        if moved is self.root or (goal is self.root and beside):
+            raise Refused(2, "IsRoot")
+        above = goal.parent if beside else goal
+        self.need_to_take(moved)
+        self.need(self.holds("add", above), "add")
+        self.need(not moved.is_any_live() or self.holds("publish", above), "publish")
+        self.stop_locked(moved)
+        if goal in moved.all_below()[1:] or (goal is moved and not beside):
+            raise Refused(7, "IntoItself")
+        if goal is moved:
+            raise Refused(15, "NothingNew")
+        self.stop_taken(above, moved.slug, moved)
+        self.seen.add((position, kind_of(goal, beside)))
+        moved.parent.kids.remove(moved)
+        if position.startswith("first"):
+            above.put(moved, 0, 1)
+        elif position.startswith("last"):
+            above.put(moved, len(above.kids))
+        else:
+            above.put(moved, above.kids.index(goal) + (position == "right"))
+        return self.replied(moved)
+
+    def delete_post(self, page):
+        """A page is deleted with all below it."""
+        gone = self.below_root(page)
+        self.need_to_take(gone)
+        self.need(not gone.kids or self.holds("bulk_delete", gone), "bulk_delete")
+        self.stop_locked(gone)
+        gone.parent.kids.remove(gone)
+        all_gone = gone.all_below()
+        for one in all_gone:
+            del self.pages[one.number]
+        self.grants = {grant for grant in self.grants if grant[0] in self.pages}
+        self.revisions = {n: r for n, r in self.revisions.items() if r.page in self.pages}
+        return {"count": len(all_gone)}
+
+    def slug_post(self, page, slug):
+        """A page gets another slug."""
+        one = self.below_root(page)
+        self.need(self.may_edit(one), "change")
+        self.need(not one.is_any_live() or self.holds("publish", one), "publish")
+        self.stop_locked(one)
+        if one.slug == slug:
+            raise Refused(15, "NothingNew")
+        self.stop_taken(one.parent, slug, one)
+        one.slug = slug
+        return self.replied(one)
+
+    # -- commands on desks
+
+    def open_post(self, page):
+        """The caller opens a desk."""
+        one = self.below_root(page)
+        self.need(self.may_edit(one), "change")
+        self.stop_locked(one)
+        if page in self.desks:
+            raise Refused(14, "DeskTaken", self.desks[page][0])
+        if len(self.desks) >= MAX_DESKS:
+            raise Refused(21, "ContentFull")
+        self.desks[page] = (self.caller, one.latest.content)
+        return {}
+
+    def save_post(self, page, content):
+        """The caller's text is saved."""
+        self.own_desk(page)
+        self.desks[page] = (self.caller, content)
+        return {}
+
+    def shut_post(self, page):
+        """The caller's desk is given up."""
+        self.own_desk(page)
+        del self.desks[page]
+        return {}
+
+    def file_post(self, page, go_live_at, expire_at):
+        """The caller's text becomes the page's latest revision."""
+        text, one = self.own_desk(page), self.find(page)
+        old = one.latest
+        if (text, go_live_at, expire_at) == (old.content, old.go_live, old.expire):
+            raise Refused(15, "NothingNew")
+        revision = self.file_revision(one, text, go_live_at, expire_at)
+        del self.desks[page]
+        return {"id": revision.number}
+
+    # -- commands on what is public
+
+    def publish_post(self, page):
+        """The latest revision is published, or scheduled."""
+        one, moment = self.below_root(page), self.moment()
+        self.need(self.holds("publish", one), "publish")
+        self.stop_locked(one)
+        latest = one.latest
+        waits = latest.go_live is not None and latest.go_live > moment
+        if (one.live and one.shown is latest) or (one.scheduled is latest and waits):
+            raise Refused(15, "NothingNew")
+        if latest.expire is not None and (
+            latest.expire <= moment or (latest.go_live is not None and latest.expire <= latest.go_live)
+        ):
+            raise Refused(20, "AlreadyExpired")
+        if waits:
+            one.scheduled = latest
+            self.seen.add(("publish", "scheduled"))
+        else:
+            one.shown, one.live, one.expired, one.scheduled = latest, True, False, None
+            one.first_published = one.first_published if one.first_published is not None else moment
+            one.last_published = moment
+        return {"scheduled": waits}
+
+    def unpublish_post(self, page):
+        """The page is taken out of the public."""
+        one = self.below_root(page)
+        self.need(self.holds("publish", one), "publish")
+        self.stop_locked(one)
+        if not one.live:
+            raise Refused(16, "NotLive")
+        one.live, one.scheduled = False, None
+        return {}
+
+    def lock_post(self, page):
+        """The page is locked for the caller."""
+        one = self.below_root(page)
+        self.need(self.holds("lock", one), "lock")
+        if one.locked_by is not None:
+            raise Refused(4, "Locked", one.locked_by)
+        one.locked_by = self.caller
+        return {}
+
+    def unlock_post(self, page):
+        """The page is unlocked."""
+        one = self.below_root(page)
+        self.need(one.locked_by == self.caller or self.holds("unlock", one), "unlock")
+        if one.locked_by is None:
+            raise Refused(15, "NothingNew")
+        one.locked_by = None
+        return {}
+
+    def purge_post(self, page):
+        """Revisions go that nothing needs."""
+        one = self.below_root(page)
+        self.need(self.may_edit(one), "change")
+        self.stop_locked(one)
+        kept = {one.shown, one.latest, one.scheduled}
+        gone = [n for n, r in self.revisions.items() if r.page == page and r not in kept]
+        if not gone:
+            raise Refused(15, "NothingNew")
+        for number in gone:
+            del self.revisions[number]
+        return {"count": len(gone)}
+
+    # -- running, and reading
+
+    def drop_lost_desks(self):
+        """Desks end whose page is gone, or whose user may not work there any more."""
+        for number, (user, _) in list(self.desks.items()):
+            page = self.pages.get(number)
+            if page and self.may_edit(page, user) and page.locked_by in (None, user):
+                continue
+            self.seen.add(("desk", "lost by its page" if page is None else "lost by its user"))
+            del self.desks[number]
+
+    def run(self, token, route, now, **fields):
+        """A command's answer to the caller with this token at a moment."""
+        self.caller, self.now = self.user_of(token), now
+        if self.caller is None:
+            return {"error": "NoUser"}
+        try:
+            told = getattr(self, route + "_post")(**fields)
+        except Refused as refusal:
+            number, name, *carried = refusal.args
+            self.refusals[name] = self.refusals.get(name, 0) + 1
+            if number == 3:
+                self.seen.add((route, "denied"))
+            told = {"name": name, "refused": number}
+            return told | ({"with": carried[0]} if carried else {})
+        if not self.is_super():
+            self.seen.add((route, "done"))
+        if route != "save":
+            self.time = self.moment()
+            self.drop_lost_desks()
+        self.entry += 1
+        return told | {"entry": self.entry}
+
+    def card(self, number):
+        """The card of a page."""
+        if number not in self.pages:
+            return {"name": "NoPage", "refused": 1, "with": number}
+        page, number_of = self.pages[number], lambda one: one.number if one else 0
+        return self.replied(page) | {
+            "alias_of": 0,
+            "depth": len(page.walk()),
+            "expire_at": time_text(page.shown.expire) if page.shown else None,
+            "expired": page.expired,
+            "first_published_at": time_text(page.first_published),
+            "last_published_at": time_text(page.last_published),
+            "latest": number_of(page.latest),
+            "live": page.live,
+            "locked_by": page.locked_by or 0,
+            "moderation": "none",
+            "numchild": len(page.kids),
+            "owner": page.owner,
+            "scheduled": number_of(page.scheduled),
+            "shown": number_of(page.shown),
+            "slug": page.slug,
+            "task": 0,
+            "title": page.content()["title"],
+            "unpublished_changes": page is not self.root
+            and (not page.live or page.shown is not page.latest),
+        }
+
+    def public(self, url):
+        """What everybody is answered at a URL."""
+        page = next((one for one in self.pages.values() if one.url() == url and one.live), None)
+        if page is None:
+            return {"error": "NotFound"}
+        kids = [kid for kid in page.kids if kid.live][:MAX_KIDS]
+        return {
+            "blocks": page.content()["blocks"],
+            "children": [
+                {"id": kid.number, "title": kid.content()["title"], "url": kid.url()} for kid in kids
+            ],
+            "id": page.number,
+            "title": page.content()["title"],
+            "url": url,
+        }
+
+    def desk(self, token, number):
+        """The caller's text of a page."""
+        user = self.user_of(token)
+        if user is None:
+            return {"error": "NoUser"}
+        owner, text = self.desks.get(number, (None, None))
+        return text if owner == user else {"name": "NoDesk", "refused": 13}

@@ -13,7 +13,8 @@ pub record IsAtFront {A : Type 0} (form : A → List ℕ) (Is : A → Type 0) (b
 abbrev pub TellsFront : {A : Type 0} → (A → List ℕ) → (A → Type 0) → List ℕ →
     Option (A × ℕ) → Type 0
 TellsFront form Is bytes (Some found) = IsAtFront form Is bytes found.0 found.1
-TellsFront {A} form Is bytes None = (value : A) (size : ℕ) → IsAtFront form Is bytes value size → ⊥
+TellsFront {A} form Is bytes None =
+    (value : A) (size : ℕ) → IsAtFront form Is bytes value size → ⊥
 
 -- one form is of one value, and no form begins another: where bytes go on after a form, they can be
 -- split in no other way

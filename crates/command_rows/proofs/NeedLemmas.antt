@@ -116,7 +116,8 @@ needs_named tree (commands.Move page target position) named = (
 )
 needs_named tree (commands.Delete page) named = first_there tree page [] named.there
 needs_named tree (commands.SetSlug page slug) named = first_there tree page [] named.there
-needs_named tree (commands.Alias source parent slug) named = (first_there tree source (parent ∷ []) named.there, second_there tree source parent named.there)
+needs_named tree (commands.Alias source parent slug) named =
+    (first_there tree source (parent ∷ []) named.there, second_there tree source parent named.there)
 needs_named tree (commands.Detach page) named = first_there tree page [] named.there
 needs_named tree (commands.Copy page parent slug deep) named = second_there tree page parent named.there
 needs_named tree (commands.OpenDesk page) named = first_there tree page [] named.there

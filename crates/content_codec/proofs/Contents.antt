@@ -31,7 +31,8 @@ AreTexts texts = (length texts < 65536) × AllByRecursion IsLong texts
 -- the forms of texts, one after the other
 texts_are : (texts : List (List ℕ)) → texts_form texts ≡ each_form text_form texts
 texts_are [] = refl
-texts_are (text ∷ texts) = ap (λ (t : List ℕ). text_form text ++ t) (texts_are texts)
+texts_are (text ∷ texts) =
+    ap (λ (t : List ℕ). text_form text ++ t) (texts_are texts)
 
 -- the form of the texts of a list
 abbrev list_form : List (List ℕ) → List ℕ
@@ -111,7 +112,8 @@ block_reading = record { again = block_again; takes = block_takes }
 -- the forms of blocks, one after the other
 blocks_are : (blocks : List Block) → blocks_form blocks ≡ each_form block_form blocks
 blocks_are [] = refl
-blocks_are (block ∷ blocks) = ap (λ (t : List ℕ). block_form block ++ t) (blocks_are blocks)
+blocks_are (block ∷ blocks) =
+    ap (λ (t : List ℕ). block_form block ++ t) (blocks_are blocks)
 
 -- the form of the blocks of a content
 abbrev block_list_form : List Block → List ℕ

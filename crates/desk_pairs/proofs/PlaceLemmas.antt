@@ -7,7 +7,8 @@ use Rattle.page_tree.specs.Rows.{comes_before}
 use Rattle.site_model.specs.Users.{put_in}
 use Rattle.site_model.specs.Sound.{KeysRise}
 use Rattle.desk_pairs.specs.Places.{place_of, passes}
-use Rattle.desk_pairs.proofs.KeyLemmas.{before_trans, before_other, before_back, before_self}
+use Rattle.page_tree.proofs.OrderLemmas.{comes_before-trans, comes_before-not_back, comes_before-other}
+use Rattle.desk_pairs.proofs.KeyLemmas.{before_self}
 
 module _ {Item : Type 0} where
   -- the test is whether an item has the key
@@ -28,7 +29,7 @@ module _ {Item : Type 0} where
   parted key wanted [] rise i j d le lt h = absurd (omega arith)
   parted key wanted (item ∷ items) rise zero zero d le lt h = h
   parted key wanted (item ∷ items) rise zero (suc j) d le lt h =
-      before_trans (key item) (key (get_or items j d)) wanted
+      comes_before-trans (key item) (key (get_or items j d)) wanted
       (all_at (λ (later : Item). comes_before (key item) (key later) ≡ true) items j d rise.0 (omega arith)) h
   parted key wanted (item ∷ items) rise (suc i) zero d le lt h = absurd (omega arith)
   parted key wanted (item ∷ items) rise (suc i) (suc j) d le lt h =
@@ -166,11 +167,11 @@ module _ {Item : Type 0} where
           let found : true ≡ false = rw e at apart in
           cc
       choice false e true f more =
-          let back = before_back (key new) (key item) f in
+          let back = comes_before-not_back (key new) (key item) f in
           rw (back, f) refl
       choice false e false f more =
           let later : list_any test items ≡ false = rw e at apart in
-          let before = before_other (key new) (key item) (λ same. differ e (sym same)) f in
+          let before = comes_before-other (key new) (key item) (λ same. differ e (sym same)) f in
           rw (before, f) (ap (λ rest. item ∷ rest) (more later))
         where
           differ : test item ≡ false → key item ≡ key new → ⊥

@@ -215,5 +215,8 @@ module _ (page : ℕ) (desks : List DeskRow) (place : ℕ) (rise : PagesRise des
       (place < length desks) × ((text : ContentValue) (own : DeskRow) → own ≡ get_or desks place own →
       set desks place (record own { content = text }) ≡ with_text page user text desks)
   written_where_told user there =
-      let within = there_within page desks rise (own_there page user desks rise there) in
-      (omega arith, λ text own is. rw at (written_at_place page user text desks own rise there (rw (← at) is)))
+      let within = there_within page desks rise (own_there page user desks rise there) in (
+        omega arith,
+        λ text own is. rw at
+            (written_at_place page user text desks own rise there (rw (← at) is)),
+      )

@@ -11,12 +11,15 @@ use Rattle.disk_model.proofs.TornLemmas.{Torn-none, Torn-all, Shortened-all}
 MatchBool-true : (b : Bool) (P Q : Type 0) → b ≡ true → MatchBool b P Q → P
 MatchBool-true b P Q is fact = subst (λ v. MatchBool v P Q) is fact
 
+-- a test that fails leaves the second fact
 MatchBool-false : (b : Bool) (P Q : Type 0) → b ≡ false → MatchBool b P Q → Q
 MatchBool-false b P Q is fact = subst (λ v. MatchBool v P Q) is fact
 
+-- a file has its own number
 same_file : (file : ℕ) → eqb file file ≡ true
 same_file file = grind (arith, nat_tests)
 
+-- another file has another number
 other_file : (file other : ℕ) → file ≢ other → eqb other file ≡ false
 other_file file other differs = grind (arith, nat_tests)
 
@@ -44,6 +47,7 @@ held_by_test : (b : Bool) (start : Image) (call : Call) (calls : List Call) (fil
 held_by_test true start call calls file before = inl refl
 held_by_test false start call calls file before = before
 
+-- what a read gives may be held after a crash
 seen_may_be_held_after : (start : Image) (calls : List Call) (file : ℕ)
     → MayHoldAfter start calls file (seen_after start calls file)
 unfolding MayHoldAfter seen_after

@@ -20,7 +20,8 @@ pub record Shortened (size : ℕ) (old new : List ℕ) : Type 0 where
 abbrev pub LeavesPart : Deed → (List ℕ → Type 0) → List ℕ → Type 0
 LeavesPart (did_write at count) before bytes =
     (was : List ℕ) × before was × Torn at count was bytes
-LeavesPart (did_cut size) before bytes = (was : List ℕ) × before was × Shortened size was bytes
+LeavesPart (did_cut size) before bytes =
+    (was : List ℕ) × before was × Shortened size was bytes
 LeavesPart did_sync before bytes = ⊥
 
 -- what a crash after these calls may leave of a file

@@ -152,8 +152,8 @@ unfolding command_form IsCommand
 define_workflow_right =
     made_takes tasks_reading DefineWorkflow command_form IsCommand 19 (λ _ is. is) (λ _. refl)
 
--- one fact and another one
 infixr 5 ◌and◌
+-- one fact and another one
 abbrev ◌and◌ : {A B : Type 0} → A → B → A × B
 a and b = (a, b)
 

@@ -19,13 +19,7 @@ use Rattle.page_store.proofs.Leading.{leading-le-length}
 use Rattle.page_store.proofs.PathOrder.{begins-self, begins-BeginsWith, BeginsWith-begins}
 use Rattle.page_store.proofs.RangeLemmas.{drop_at_place, own_place, range_at, within_from_get}
 use Rattle.flat_model.specs.Made.{with_move, outside, subtree}
-
--- a page that is found has its id
-pub found_id : (id : ℕ) (rows : List Page) (row : Page) → row_with id rows ≡ Some row → row.id ≡ id
-found_id id rows row found =
-    let passes : nat_eq row.id id ≡ true =
-    found_passes (λ (r : Page). nat_eq r.id id) rows row found in
-    grind (arith, nat_tests)
+pub use Rattle.page_tree.proofs.RowLemmas.{found_id}
 
 -- a row that does not begin with a path fails the test
 fails : (path own : List ℕ) → (BeginsWith path own → ⊥) → begins path own ≡ false

@@ -15,13 +15,11 @@ ghost use Rattle.flow_edits.specs.Plans.{Plans, Tells, revision_of, filed_body, 
 
 use crate::telling::{body_of, ending, later, latest_of, one_page, same_moment};
 use grants::{Change, Fault, Plan, TreePart};
+use revision_shelf::MAX_CONTENT_SUM;
 use site_types::{
     Body, Content, Items, Moment, NoMemory, PageId, Refusal, Reply, Revision, RevisionId, UserId,
 };
 use std::alloc::Global;
-
-/// The most bytes that the forms of all contents may have together.
-const MAX_CONTENT_SUM: u64 = 1_073_741_824;
 
 /// What is filed: a text, when it is to be published, if not at once, and when the page is to stop
 /// being live, if ever.

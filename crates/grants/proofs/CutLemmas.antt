@@ -9,7 +9,7 @@ use Rattle.site_model.specs.Users.{grant_key}
 use Rattle.site_model.specs.Sound.{KeysRise}
 use Rattle.site_model.proofs.OrderLemmas.{rise_filter}
 use Rattle.desk_pairs.specs.Places.{place_of}
-use Rattle.desk_pairs.proofs.KeyLemmas.{before_trans}
+use Rattle.page_tree.proofs.OrderLemmas.{comes_before-trans}
 
 module _ {Item : Type 0} (key : Item → List ℕ) (low high : List ℕ)
     (higher : (item : Item) → comes_before (key item) low ≡ true → comes_before (key item) high ≡ true) where
@@ -36,7 +36,7 @@ place_first key wanted item (next ∷ items) behind later =
     choice : (t : Bool) → comes_before (key next) wanted ≡ t →
         cond t (suc (place_of key wanted items)) 0 ≡ 0
     choice true e =
-        let before = before_trans (key item) (key next) wanted later.0 e in
+        let before = comes_before-trans (key item) (key next) wanted later.0 e in
         cc
     choice false e = refl
 

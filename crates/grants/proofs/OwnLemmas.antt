@@ -48,7 +48,8 @@ slice_get_behind : {Item : Type 0} (xs : List Item) (place at whole : ℕ) → w
     slice_get (drop place xs) at ≡ slice_get xs whole
 slice_get_behind [] zero at whole is = refl
 slice_get_behind [] (suc place) at whole is = refl
-slice_get_behind (x ∷ xs) zero at whole is = let same : at ≡ whole = omega arith in
+slice_get_behind (x ∷ xs) zero at whole is =
+    let same : at ≡ whole = omega arith in
     ap (slice_get (x ∷ xs)) same
 slice_get_behind (x ∷ xs) (suc place) at zero is = absurd (omega arith)
 slice_get_behind (x ∷ xs) (suc place) at (suc whole) is =

@@ -123,7 +123,8 @@ second_refuses (Some other) two result met is = absurd cc
 told_first : (one : Option Refusal) (more : List (Option Refusal)) (refusal : Refusal) →
     Some refusal ≡ one → Err refusal ≡ rule_told (first_of (one ∷ more))
 told_first None more refusal is = absurd cc
-told_first (Some other) more refusal is = let same : refusal ≡ other = cc in ap Err same
+told_first (Some other) more refusal is =
+    let same : refusal ≡ other = cc in ap Err same
 
 -- and of those after one that does not
 told_later : (one : Option Refusal) (more : List (Option Refusal)) → None ≡ one →

@@ -78,12 +78,14 @@ none_kept (pair ∷ pairs) = none_kept pairs
 -- where no desk ends all are left
 all_left : (pairs : List DeskPair) → pairs_left [] pairs ≡ pairs
 all_left [] = refl
-all_left (pair ∷ pairs) = ap (λ (more : List DeskPair). pair ∷ more) (all_left pairs)
+all_left (pair ∷ pairs) =
+    ap (λ (more : List DeskPair). pair ∷ more) (all_left pairs)
 
 -- so too by page and user
 none_ended : (pairs : List DeskPair) → filter (λ pair. not (is_ended [] pair)) pairs ≡ pairs
 none_ended [] = refl
-none_ended (pair ∷ pairs) = ap (λ (more : List DeskPair). pair ∷ more) (none_ended pairs)
+none_ended (pair ∷ pairs) =
+    ap (λ (more : List DeskPair). pair ∷ more) (none_ended pairs)
 
 -- The desks that a command ends which shuts none: its suspects that do not stay.
 abbrev pub ended_by : TreePart → TreePart → Command → List DeskPair

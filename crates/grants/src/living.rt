@@ -55,7 +55,8 @@ fn are_hidden(rows: &Rows, place: usize, count: usize) -> bool
 /// Whether there is a page at a place, which is not live.
 fn is_hidden_at(rows: &Rows, place: usize) -> bool
     ensures { result
-        ≡ option_map_or (λ row. not (is_live_in rows.now.pages row.body)) (slice_get rows.now.pages place) false }
+        ≡ option_map_or (λ row. not (is_live_in rows.now.pages row.body))
+        (slice_get rows.now.pages place) false }
 {
     let _len = rows.len();
     let Some(page) = rows.at(place) else {

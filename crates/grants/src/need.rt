@@ -130,8 +130,8 @@ fn leave_need(part: &TreePart, user: UserId, page: PageId) -> Option<u8>
     }
 }
 
-/// The first need to put a page below a parent that is not met: to add there, and to publish there if the page
-/// or one below it is live.
+/// The first need to put a page below a parent that is not met: to add there, and to publish there
+/// if the page or one below it is live.
 fn arrive_need(part: &TreePart, user: UserId, page: PageId, parent: PageId) -> Option<u8>
     requires page_there { IsSome (row_with page part.now.rows.pages) }
     requires parent_there { IsSome (row_with parent part.now.rows.pages) }

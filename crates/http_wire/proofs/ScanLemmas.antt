@@ -54,7 +54,8 @@ head_length-end bytes i n inside feed found =
 -- a place counted from the front is itself
 pub counted_from-front : (found : Option ℕ) → counted_from 0 found ≡ found
 counted_from-front None = refl
-counted_from-front (Some n) = let same : 0 + n ≡ n = omega arith in ap Some same
+counted_from-front (Some n) =
+    let same : 0 + n ≡ n = omega arith in ap Some same
 
 -- one byte more in front moves the place from which is counted
 pub one_more-counted_from : (k : ℕ) (found : Option ℕ) →

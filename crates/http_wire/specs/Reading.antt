@@ -75,8 +75,10 @@ front_behind head rest =
 
 -- the front that a head or a status makes of the bytes after
 abbrev pub MakesFront : Result Head ℕ → (List ℕ → Front) → Type 0
-MakesFront (Ok head) front = (rest : List ℕ) → front rest ≡ front_behind head rest
-MakesFront (Err status) front = (rest : List ℕ) → front rest ≡ refused status
+MakesFront (Ok head) front =
+    (rest : List ℕ) → front rest ≡ front_behind head rest
+MakesFront (Err status) front =
+    (rest : List ℕ) → front rest ≡ refused status
 
 -- the request of these parts of a head
 abbrev pub request_of_parts : List ℕ → List ℕ → ℕ → List Header → List ℕ → model.Request

@@ -17,6 +17,7 @@ opened-push (first ∷ payloads) payload =
     ap (λ l. (1 ∷ record_of first) ++ l) (opened-push payloads payload)
     ∙ sym (append_assoc (1 ∷ record_of first) (opened payloads) (1 ∷ record_of payload))
 
+-- one payload more comes at the end of what is open
 pub front-push : (k : ℕ) (payloads : List (List ℕ)) (payload : List ℕ)
     → front k (payloads ++ payload ∷ []) ≡ front k payloads ++ 1 ∷ record_of payload
 unfolding front
@@ -28,6 +29,7 @@ front-push k payloads payload =
 pub length-record_of : (payload : List ℕ) → length (record_of payload) ≡ 4 + length payload
 length-record_of payload = omega arith
 
+-- payloads that fit do so with one more that fits
 pub fit-push : (payloads : List (List ℕ)) (payload : List ℕ) → AllByRecursion Fits payloads
     → Fits payload → AllByRecursion Fits (payloads ++ payload ∷ [])
 fit-push [] payload fit fits = (fits, fit)
@@ -181,6 +183,7 @@ pub front-nil : (k : ℕ) → front k [] ≡ header k
 unfolding front opened
 front-nil k = append-nil (header k)
 
+-- a header has 16 bytes
 pub length-header : (k : ℕ) → length (header k) ≡ 16
 length-header k = omega arith
 
@@ -194,5 +197,6 @@ Recovers-fresh k held is = record {
   fit = tt;
 }
 
+-- a header and a gate have 17 bytes
 pub length-fresh : (k : ℕ) → length (header k ++ 0 ∷ []) ≡ 17
 length-fresh k = omega arith

@@ -104,6 +104,7 @@ pub OnErr-any : {T E : Type 0} (result : Result T E) (P : Type 0) → P → OnEr
 OnErr-any (Ok _) P fact = tt
 OnErr-any (Err _) P fact = fact
 
+-- a fact that holds anyway holds after success
 pub OnOk-any : {T E : Type 0} (result : Result T E) (P : Type 0) → P → OnOk result P
 OnOk-any (Ok _) P fact = fact
 OnOk-any (Err _) P fact = tt
@@ -121,6 +122,7 @@ Holds-by journal k gate past payloads k_is sure gate_now gate_is each =
       each = subst P (sym k_is) each;
     }
 
+-- a journal whose last gate is in doubt, by its parts
 pub HoldsInDoubt-by : (journal : JournalValue) (k gate : ℕ) (past : Past)
     (payloads : List (List ℕ)) (payload : List ℕ) → journal.k ≡ k → journal.pending ≡ true
     → journal.gate ≡ gate → gate ≡ length (front k payloads)

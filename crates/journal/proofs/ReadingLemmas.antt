@@ -12,6 +12,7 @@ record IsSame (first second rest other : List ℕ) : Type 0 where
   payload : first ≡ second
   tail : rest ≡ other
 
+-- two records that begin the same bytes are one
 same_record : (first second rest other : List ℕ) → Fits first → Fits second
     → record_of first ++ rest ≡ record_of second ++ other → IsSame first second rest other
 same_record first second rest other fits other_fits is =
@@ -35,6 +36,7 @@ unfolding opened
 opened-first payload payloads rest =
     append_assoc (1 ∷ record_of payload) (opened payloads) rest
 
+-- no payload has no bytes
 opened-none : (rest : List ℕ) → opened [] ++ rest ≡ rest
 unfolding opened
 opened-none rest = refl
@@ -43,6 +45,7 @@ opened-none rest = refl
 same_head : (x y : ℕ) (xs ys : List ℕ) → x ∷ xs ≡ y ∷ ys → x ≡ y
 same_head x y xs ys is = cc
 
+-- lists that are the same go on the same
 same_tail : (x y : ℕ) (xs ys : List ℕ) → x ∷ xs ≡ y ∷ ys → xs ≡ ys
 same_tail x y xs ys is = cc
 

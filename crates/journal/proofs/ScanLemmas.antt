@@ -51,6 +51,7 @@ IsPart-held block at gate place held bytes part same held_is before within =
     subst P (sym (held_is ∙ ap (λ n. drop (n - at) block) same))
     (IsPart-drop block at place bytes part before within)
 
+-- how many bytes are held from a place on
 pub length-held : (block : List ℕ) (at gate place : ℕ) (held : List ℕ) → gate ≡ place
     → held ≡ drop (gate - at) block → length held ≡ length block - (place - at)
 length-held block at gate place held same held_is =

@@ -48,12 +48,14 @@ two_members first second _ e = absurd (cc)
 
 -- a value that gives a text is that text
 pub text_form : (value : Data) (text : List ℕ) → as_str value ≡ Some text → value ≡ string text
-text_form (string s) text e = let same : s ≡ text = cc in ap string same
+text_form (string s) text e =
+    let same : s ≡ text = cc in ap string same
 text_form _ text e = absurd (cc)
 
 -- a value that gives items is an array of them
 array_form : (value : Data) (items : Items) → as_array value ≡ Some items → value ≡ array items
-array_form (array found) items e = let same : found ≡ items = cc in ap array same
+array_form (array found) items e =
+    let same : found ≡ items = cc in ap array same
 array_form _ items e = absurd (cc)
 
 -- a value that gives a whole number is that number, written with digits alone

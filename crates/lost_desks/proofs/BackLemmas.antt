@@ -11,7 +11,8 @@ use Rattle.site_model.specs.Rights.{permission_number}
 use Rattle.site_model.specs.Users.{put_in, member_key, grant_key, membership, grant_of, is_membership, is_grant, members_after, grants_after}
 use Rattle.site_model.specs.Sound.{KeysRise}
 use Rattle.flat_model.specs.People.{members_with, grants_with}
-use Rattle.desk_pairs.proofs.KeyLemmas.{before_back, before_self}
+use Rattle.page_tree.proofs.OrderLemmas.{comes_before-not_back}
+use Rattle.desk_pairs.proofs.KeyLemmas.{before_self}
 
 module _ {Item : Type 0} (key : Item → List ℕ) (new : Item) (test : Item → Bool)
     (names : (item : Item) → test item ≡ true → item ≡ new) where
@@ -84,7 +85,7 @@ module _ {Item : Type 0} (key : Item → List ℕ) (new : Item) (test : Item →
       choice false e more =
           let later : list_any test items ≡ true = rw e at found in
           let before = found_behind item items later rise.0 in
-          let after = before_back (key item) (key new) before in
+          let after = comes_before-not_back (key item) (key new) before in
           rw (e, after) (ap (λ rest. item ∷ rest) (more later))
 
 -- none is left of those that are taken out

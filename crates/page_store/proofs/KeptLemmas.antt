@@ -193,7 +193,8 @@ pub insert_kept : (stored mid later : List (ℕ
     × StoredRow)) (order : List ℕ) (kids more_kids : List (KidKey
     × ℕ)) (pages : List Page) (new : StoredRow) (p : ℕ)
     → IsKept stored order kids pages → IsNewRow pages new.row →
-    parent_id (steps_of new.row.path) pages ≡ Some p → new.parent ≡ Some p → IsPageId new.row.id → new.counted ≡ false
+    parent_id (steps_of new.row.path) pages ≡ Some p → new.parent ≡ Some p → IsPageId new.row.id →
+    new.counted ≡ false
     → ((id : ℕ) → lookup (nat_eq id) mid ≡ cond (nat_eq p id) (option_map kid_added (lookup (nat_eq
     p) stored)) (lookup (nat_eq id) stored))
     → ((id : ℕ) → lookup (nat_eq id) later ≡ cond (nat_eq new.row.id id) (Some new) (lookup (nat_eq id) mid))

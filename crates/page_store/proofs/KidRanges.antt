@@ -66,13 +66,15 @@ kids_in-stop p (x ∷ xs) ys none = by (is_parent p x.parent) (kids_in-stop p xs
 
 -- the first m + n elements are the first m, and the first n behind them
 take_parts : {X : Type 0} (m n : ℕ) (xs : List X) → take (m + n) xs ≡ take m xs ++ take n (drop m xs)
-take_parts zero n xs = let same : 0 + n ≡ n = omega arith in rw same refl
-take_parts (suc m) n [] = let same : suc m + n ≡ suc (m + n) = omega arith in rw same (none n)
+take_parts zero n xs = rw (let zero : 0 + n ≡ n = omega arith in zero) refl
+take_parts (suc m) n [] =
+    let same : suc m + n ≡ suc (m + n) = omega arith in rw same (none n)
   where
     none : {X : Type 0} (n : ℕ) → [] ≡ take n (let out : List X = [] in out)
     none zero = refl
     none (suc n) = refl
-take_parts (suc m) n (x ∷ xs) = let same : suc m + n ≡ suc (m + n) = omega arith in
+take_parts (suc m) n (x ∷ xs) =
+    let same : suc m + n ≡ suc (m + n) = omega arith in
     rw same (ap (λ rest. x ∷ rest) (take_parts m n xs))
 
 -- a later row has a parent

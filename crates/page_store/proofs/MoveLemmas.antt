@@ -94,7 +94,8 @@ module _ {X : Type 0} where
       let long : length (front ++ other) ≡ to = length-append front other ∙ omega arith in
       ap (λ zs. take to zs ++ (take n (drop from (front ++ (one ++ (other ++ back)))) ++ drop to zs)) rest
       ∙ ap (λ zs. take to ((front ++ other) ++ back) ++ (zs ++ drop to ((front ++ other) ++ back))) middle
-      ∙ ap (λ zs. zs ++ (one ++ drop to ((front ++ other) ++ back))) (take_front to (front ++ other) back long)
+      ∙ ap (λ zs. zs ++ (one ++ drop to ((front ++ other) ++ back)))
+      (take_front to (front ++ other) back long)
       ∙ ap (λ zs. (front ++ other) ++ (one ++ zs)) (drop_front to (front ++ other) back long)
       ∙ append_assoc front other (one ++ back)
 

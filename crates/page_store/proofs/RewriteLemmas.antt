@@ -119,4 +119,5 @@ pub either_steps : (stored mid : List (ℕ × StoredRow)) (paths urls shown show
     (lookup (nat_eq q) stored)) → first ≤ old + length shown →
     last ≤ first + uncounted_in mid shown_urls → last ≤ old + listed_in_either paths urls
 either_steps stored mid paths urls shown shown_urls first last old paths_are urls_are puts one other =
-    rw (← paths_are, ← urls_are) (let most = uncounted_in-others stored mid shown puts shown_urls in omega arith)
+    rw (← paths_are, ← urls_are) (let most = uncounted_in-others stored mid shown puts shown_urls
+    in omega arith)

@@ -48,7 +48,8 @@ found_by_own_id (row ∷ rows) own =
 seen_one : (o : Option StoredRow) (row : Page) (rows : List Page) → option_map seen o ≡ Some row →
     seen_before o rows ≡ row ∷ rows
 seen_one None row rows h = cc
-seen_one (Some stored) row rows h = let one : seen stored ≡ row = cc in ap (λ r. r ∷ rows) one
+seen_one (Some stored) row rows h =
+    let one : seen stored ≡ row = cc in ap (λ r. r ∷ rows) one
 
 -- where each row is what is kept of its id, they are what is seen of their ids
 rows_seen-from_each : (stored : List (ℕ × StoredRow)) (rows : List Page) →

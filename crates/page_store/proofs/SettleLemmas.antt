@@ -134,7 +134,8 @@ module _ (rows : List Page) (top p to : ℕ) (row : Page) (can : CanSettle (Some
       map-equal (recounted put_under) (λ r. after to with_kid (after p without_kid r)) put_under
       (All-changed (λ r. recounted put_under r ≡ after to with_kid (after p without_kid r)) top (under
       to) (λ r h. ap (under to) h ∙ moves r (nat_eq r.id p)) rows (All-weaker (λ r. r.numchild ≡
-      length (kids_in r.id rows)) (λ r. recounted put_under r ≡ after to with_kid (after p without_kid r)) one rows
+      length (kids_in r.id rows)) (λ r. recounted put_under r
+      ≡ after to with_kid (after p without_kid r)) one rows
       can.counts))
       ∙ twice put_under
     where

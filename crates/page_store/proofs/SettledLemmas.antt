@@ -65,7 +65,8 @@ module _ (stored : List (ℕ × StoredRow)) (order : List ℕ) (rows : List Page
       -- what is kept of each row
       kept_rows : AllByRecursion (λ row. option_map seen (lookup (nat_eq row.id) stored) ≡ Some row)
           rows
-      kept_rows = kept_of_ids stored order rows listed.ids listed.found (own_ids_listed stored order rows listed)
+      kept_rows = kept_of_ids stored order rows listed.ids listed.found
+          (own_ids_listed stored order rows listed)
 
       -- where the root moved, or no page that is kept
       pub settle_root : own_key (lookup (nat_eq top) stored) ≡ None →
@@ -185,7 +186,8 @@ module _ (stored : List (ℕ × StoredRow)) (order : List ℕ) (rows : List Page
                     let few = length-filter-le (λ (r : Page). is_parent page.row.id r.parent) rows in
                     let most = few_pages (settled rows) listed.are_pages in
                     let long : length (settled rows) ≡ length rows =
-                    length-map _ (recounted (map (reparented rows) rows)) ∙ length-map rows (reparented rows) in
+                    length-map _ (recounted (map (reparented rows) rows))
+                    ∙ length-map rows (reparented rows) in
                     omega arith
 
             -- so has the new parent
@@ -237,9 +239,11 @@ module _ (stored : List (ℕ × StoredRow)) (order : List ℕ) (rows : List Page
                   are_pages = subst ArePages is listed.are_pages;
                 })
               where
-                is : settled rows ≡ counted rows top old.parent to row can (own_ids_listed stored order rows listed) found_row
+                is : settled rows ≡ counted rows top old.parent to row can
+                    (own_ids_listed stored order rows listed) found_row
                     below_old goes_to differ
-                is = settled_is rows top old.parent to row can (own_ids_listed stored order rows listed) found_row below_old goes_to
+                is = settled_is rows top old.parent to row can
+                    (own_ids_listed stored order rows listed) found_row below_old goes_to
                     differ
 
                 found_mid : (q : ℕ) → row_with q (changed top (under to) rows) ≡ option_map seen (lookup
@@ -269,7 +273,8 @@ module _ (stored : List (ℕ × StoredRow)) (order : List ℕ) (rows : List Page
                     })
 
                 named_now : (q : ℕ) (text : List ℕ) → lookup (key_eq (kid_key q text)) more ≡ kid_named q
-                    text (counted rows top old.parent to row can (own_ids_listed stored order rows listed) found_row below_old
+                    text (counted rows top old.parent to row can
+                    (own_ids_listed stored order rows listed) found_row below_old
                     goes_to differ)
                 named_now q text =
                     puts_key (kid_key q text)
@@ -281,5 +286,6 @@ module _ (stored : List (ℕ × StoredRow)) (order : List ℕ) (rows : List Page
                     ∙ ap (λ (own : List ℕ). cond (key_eq (kid_key to row.slug) (kid_key q text)) (Some
                     top) (cond (key_eq (kid_key old.parent own) (kid_key q text)) None (kid_named q text
                     rows))) (sym slug_old)
-                    ∙ named_then rows top old.parent to row can (own_ids_listed stored order rows listed) found_row below_old
+                    ∙ named_then rows top old.parent to row can
+                    (own_ids_listed stored order rows listed) found_row below_old
                     goes_to differ listed.are_pages q text

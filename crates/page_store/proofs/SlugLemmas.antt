@@ -22,7 +22,8 @@ use Rattle.page_store.proofs.SeenLemmas.{All-find}
 use Rattle.page_store.proofs.KeptLemmas.{found_passes}
 use Rattle.page_store.proofs.ChangeLemmas.{after, All-changed, EachPair-changed, find-changed, count-changed, id_of_after, ids-changed, found-changed, texts-changed}
 use Rattle.page_store.proofs.SlugRows.{are_pages-with_slug, named-with_slug}
-pub use Rattle.page_store.proofs.SlugRows.{kid_passes, kid_fails, others_differ, same_row, find-changed_one, parent_there}
+pub use Rattle.page_store.proofs.SlugRows.{kid_passes, kid_fails, others_differ, same_row}
+pub use Rattle.page_store.proofs.SlugRows.{find-changed_one, parent_there}
 
 -- the key that is kept is that of the row
 pub key_of_row : (o : Option StoredRow) (page : StoredRow) (key : KidKey) → o ≡ Some page →

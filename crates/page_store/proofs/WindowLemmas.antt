@@ -90,13 +90,15 @@ place_before rows i j a b order at there before = by (nat_lt i j) (nat_lt j i) r
 -- paths behind one beginning compare as what follows it
 pub comes_before-behind : (front a b : List ℕ) → comes_before (front ++ a) (front ++ b) ≡ comes_before a b
 comes_before-behind [] a b = refl
-comes_before-behind (x ∷ front) a b = let same : nat_eq x x ≡ true = grind (arith, nat_tests) in
+comes_before-behind (x ∷ front) a b =
+    let same : nat_eq x x ≡ true = grind (arith, nat_tests) in
     rw same (comes_before-behind front a b)
 
 -- and begin as what follows it
 pub begins-behind : (front a b : List ℕ) → begins (front ++ a) (front ++ b) ≡ begins a b
 begins-behind [] a b = refl
-begins-behind (x ∷ front) a b = let same : nat_eq x x ≡ true = grind (arith, nat_tests) in
+begins-behind (x ∷ front) a b =
+    let same : nat_eq x x ≡ true = grind (arith, nat_tests) in
     rw (same, begins-behind front a b) refl
 
 -- the path above a longer one

@@ -28,7 +28,7 @@ use Rattle.page_store.proofs.SlugLemmas.{kid_passes, key_of_row}
 use Rattle.page_store.proofs.CutLemmas.{not_true, count_none, any-map, map-cond, All-stay, All-out, cut_window, EachPair-stay, find-stay, find-stay_kept, count-stay, count_one}
 
 -- the parts of a test of two
-both_true : (t u : Bool) → t && u ≡ true → (t ≡ true) × (u ≡ true)
+pub both_true : (t u : Bool) → t && u ≡ true → (t ≡ true) × (u ≡ true)
 both_true true true h = (refl, refl)
 both_true true false h = absurd cc
 both_true false u h = absurd cc

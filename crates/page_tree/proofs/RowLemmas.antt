@@ -1,5 +1,5 @@
 -- What the rows of a tree say of the tree: which pages are there, and which slugs siblings have.
-use Rattle.std.proofs.Common.{◌≡◌, ℕ, Bool, true, false, List, [], ◌∷◌, ◌++◌, Option, Some, None, ◌==◌, nat_eq, refl, cond, ◌||◌, ◌&&◌, is_some, find, arith}
+use Rattle.std.proofs.Common.{◌≡◌, ℕ, Bool, true, false, List, [], ◌∷◌, ◌++◌, Option, Some, None, ◌==◌, nat_eq, refl, cond, ◌||◌, ◌&&◌, is_some, find, ap, sym, ◌∙◌, arith}
 use Rattle.std.specs.Option.{option_map}
 use Rattle.std.specs.Str.{bytes_eq}
 use Rattle.std.specs.List.{AllByRecursion}
@@ -122,3 +122,18 @@ module _ {Body : Type 0} where
         below,
         after,
       ) refl
+
+-- a row is found with its id
+pub found_id : {Body : Type 0} (id : ℕ) (rows : List (Row Body)) (row : Row Body) →
+    row_with id rows ≡ Some row → row.id ≡ id
+found_id id [] row found = absurd cc
+found_id {Body} id (one ∷ rows) row found =
+    by (nat_eq one.id id) refl found (found_id id rows row)
+  where
+    by : (t : Bool) → nat_eq one.id id ≡ t → cond t (Some one) (row_with id rows) ≡ Some row →
+        (row_with id rows ≡ Some row → row.id ≡ id) → row.id ≡ id
+    by true e found more =
+        let same : one ≡ row = cc in
+        let own : one.id ≡ id = grind (arith, nat_tests) in
+        ap (λ (r : Row Body). r.id) (sym same) ∙ own
+    by false e found more = more found

@@ -94,7 +94,8 @@ moments options given = moments_by (clock_asked options) given
 
 -- the clock that is given has moved on by so many moments, if none is asked for; else it stands
 abbrev pub MovesBy : Option MemoryClock → (ℕ → Option ℕ) → (ℕ → Option ℕ) → ℕ → Type 0
-MovesBy (Some clock) given later count = (k : ℕ) → later k ≡ given k
+MovesBy (Some clock) given later count =
+    (k : ℕ) → later k ≡ given k
 MovesBy None given later count = MovesOn given later count
 
 -- how the clock that is given moves in a session with these options

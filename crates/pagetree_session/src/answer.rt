@@ -64,7 +64,8 @@ fn answer_call(
     requires few { site.old.number < ANSWER_LIMIT }
     requires fits { (command : AnyCommand) → call ≡ Call.Run command → FitsCommand command }
     ensures ok { (tally : Tally World) → IsReady site.old tally
-        → IfOk result (λ answer. Answers tally (called_with tally now (option_copied token.entry) call) answer site.new) }
+        → IfOk result (λ answer. Answers tally
+        (called_with tally now (option_copied token.entry) call) answer site.new) }
     ensures err { (tally : Tally World) → StandsFor site.old tally → OnErr result (StandsFor site.new tally) }
 {
     match call {

@@ -55,7 +55,8 @@ impl MemorySite {
         requires fits { FitsCommand command }
         ensures ok { (tally : Tally World) → IsReady self.old tally
             → IfOk result (λ answer. Answers tally (run tally user now command) answer self.new) }
-        ensures err { (tally : Tally World) → StandsFor self.old tally → OnErr result (StandsFor self.new tally) }
+        ensures err { (tally : Tally World) → StandsFor self.old tally
+            → OnErr result (StandsFor self.new tally) }
     {
         if !is_built(&command) {
             return Ok(Answer::NotBuilt);

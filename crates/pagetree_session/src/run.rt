@@ -29,10 +29,13 @@ pub fn run_command<S: Source, K: Sink, C: Clock>(
     clock: &mut C,
 ) -> Status
     ensures usage { result ≡ Status.Usage ↔ (session_options words.now ≡ None) }
-    ensures idle { result ≡ Status.Usage → (source.new ≡ source.old) × (sink.new ≡ sink.old) × (clock.new ≡ clock.old) }
+    ensures idle { result ≡ Status.Usage → (source.new ≡ source.old) × (sink.new ≡ sink.old)
+        × (clock.new ≡ clock.old) }
     ensures ends { (bytes : List ℕ) (options : Told) → session_options words.now ≡ Some options
         → S.left source.old ≡ Some bytes
-        → Ends start bytes (moments options (C.coming clock.old)) (Moves options (C.coming clock.old) (C.coming clock.new)) (S.left source.new) (K.taken sink.old) (K.taken sink.new) result }
+        → Ends start bytes (moments options (C.coming clock.old))
+        (Moves options (C.coming clock.old) (C.coming clock.new)) (S.left source.new)
+        (K.taken sink.old) (K.taken sink.new) result }
     ensures unasked { (options : Told) → session_options words.now ≡ Some options
         → IsSome (clock_asked options) → clock.new ≡ clock.old }
     ensures read_fault { result ≡ Status.ReadFault → Rose (S.faults source.old) (S.faults source.new) }
@@ -53,7 +56,9 @@ fn session_with<S: Source, K: Sink, C: Clock>(
     clock: &mut C,
 ) -> Status
     ensures ends { (bytes : List ℕ) → S.left source.old ≡ Some bytes
-        → Ends start bytes (moments options (C.coming clock.old)) (Moves options (C.coming clock.old) (C.coming clock.new)) (S.left source.new) (K.taken sink.old) (K.taken sink.new) result }
+        → Ends start bytes (moments options (C.coming clock.old))
+        (Moves options (C.coming clock.old) (C.coming clock.new)) (S.left source.new)
+        (K.taken sink.old) (K.taken sink.new) result }
     ensures known { result ≡ Status.Usage → ⊥ }
     ensures unasked { IsSome (clock_asked options) → clock.new ≡ clock.old }
     ensures read_fault { result ≡ Status.ReadFault → Rose (S.faults source.old) (S.faults source.new) }

@@ -69,7 +69,9 @@ pub fn run_session<S: Source, K: Sink, C: Clock>(
     clock: &mut C,
 ) -> Status
     ensures ends { (bytes : List ℕ) → S.left source.old ≡ Some bytes
-        → Ends start bytes (C.coming clock.old) (MovesOn (C.coming clock.old) (C.coming clock.new)) (S.left source.new) (K.taken sink.old) (K.taken sink.new) result }
+        → Ends start bytes (C.coming clock.old)
+        (MovesOn (C.coming clock.old) (C.coming clock.new)) (S.left source.new)
+        (K.taken sink.old) (K.taken sink.new) result }
     ensures known { result ≡ Status.Usage → ⊥ }
     ensures read_fault { result ≡ Status.ReadFault → Rose (S.faults source.old) (S.faults source.new) }
     ensures write_fault { result ≡ Status.WriteFault → Rose (K.faults sink.old) (K.faults sink.new) }

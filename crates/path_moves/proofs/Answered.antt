@@ -18,7 +18,8 @@ use Rattle.tree_rows.specs.Cuts.{other_rows}
 use Rattle.path_moves.specs.Plans.{UnlessMemory, planned_move}
 use Rattle.path_moves.specs.Spots.{spot_for, place_past, place_of_spot, place_without, last_place, path_of_spot, rows_between, moved_pair, raised_pair, FitBelow, GoesUp}
 use Rattle.path_moves.proofs.Planned.{Leads}
-use Rattle.path_moves.proofs.Verdicts.{path, within, steps_full, next_found, path_found, deep_page, deep_below, all_go_up, plan_made, plan_with}
+use Rattle.path_moves.proofs.Verdicts.{path, within, steps_full, next_found, path_found, deep_page, deep_below, all_go_up, plan_with}
+use Rattle.path_moves.proofs.VerdictPlans.{plan_made}
 
 -- What the calls up to the spot tell, where the step behind the last kid is this one.
 pub record Told (pages : List Page) (position : Position) (own goal above : Standing)

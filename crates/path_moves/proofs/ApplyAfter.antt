@@ -28,24 +28,13 @@ use Rattle.path_moves.proofs.ApplySlugs.{IsAt, StandsAt, GoesBelow}
 use Rattle.path_moves.proofs.CallLemmas.{ids_of-rows}
 use Rattle.tree_rows.proofs.SiteTree.{rising_tree}
 use Rattle.path_moves.proofs.TreePages.{HasRoot, root_from_rows, within_from_rows}
-
--- ids that differ are distinct
-pub distinct_from_rows : (rows : List Page) → EachPair HasOtherId rows →
-    IsDistinct nat_eq (map (λ (row : Page). row.id) rows)
-unfolding IsDistinct
-distinct_from_rows [] own = tt
-distinct_from_rows (row ∷ rows) own = (
-  All-map (λ id. nat_eq row.id id ≡ false) (λ (r : Page). r.id) rows
-      (All-weaker (HasOtherId row) (λ later. nat_eq row.id later.id ≡ false)
-      (λ later differ. told_apart row.id later.id (λ e. differ (sym e))) rows own.0),
-  distinct_from_rows rows own.1,
-)
+pub use Rattle.path_moves.proofs.MoveLaws.{distinct_rows}
 
 -- the ids of a store's tree are distinct
 pub distinct_tree : (tree : Forest Body) → ArePages (rows_of tree) → HasDistinctIds tree
 distinct_tree tree are =
     subst (λ ids. IsDistinct nat_eq ids) (ids_of-rows None [] [] tree)
-    (distinct_from_rows (rows_of tree) are.own_ids)
+    (distinct_rows (rows_of tree) are.own_ids)
 
 -- no page has the id 0 where each id is at least 1
 pub no_zero : (f : Forest Body) → AllIds (λ i. 1 ≤ i) f → count 0 f ≡ 0

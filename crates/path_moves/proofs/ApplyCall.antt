@@ -17,7 +17,7 @@ use Rattle.page_store.specs.Relabelling.{relabelled_rows, AreListed, first_moved
 use Rattle.page_store.proofs.AllLemmas.{All-map, All-weaker}
 use Rattle.path_moves.specs.Applying.{IsMovable, IsPlanned, IsFree}
 use Rattle.tree_rows.specs.Cuts.{place_of}
-use Rattle.path_moves.proofs.ApplyAfter.{IsClear, distinct_from_rows, planned_clear}
+use Rattle.path_moves.proofs.ApplyAfter.{IsClear, distinct_rows, planned_clear}
 use Rattle.path_moves.proofs.ApplyKept.{rows_from_placed}
 use Rattle.path_moves.proofs.ApplyMatched.{Stays, relabelled_are}
 use Rattle.path_moves.proofs.ApplyPages.{after_is_pages, move_done, labelled_pages}
@@ -73,7 +73,7 @@ paths_are_listed before after page own stand =
       once = subst (λ ids. IsDistinct nat_eq ids)
           (sym (ids_of_pairs (λ (row : Page). row.path)
           (filter (λ (row : Page). not (bytes_eq (path_in row.id before) row.path)) after)))
-          (distinct_from_rows
+          (distinct_rows
           (filter (λ (row : Page). not (bytes_eq (path_in row.id before) row.path)) after)
           (distinct_some (λ (row : Page). not (bytes_eq (path_in row.id before) row.path)) after
           own));

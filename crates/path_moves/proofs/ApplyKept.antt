@@ -7,7 +7,7 @@ use Rattle.page_tree.specs.Rows.{rows_below, child_url}
 use Rattle.tree_model.proofs.CountLemmas.{id_found}
 use Rattle.page_store.specs.Pages.{Page}
 use Rattle.page_store.proofs.AllLemmas.{All-append}
-use Rattle.tree_rows.proofs.Lists.{All-parts}
+use Rattle.tree_rows.proofs.Lists.{all_parts}
 
 -- P holds of each page's id, parent, slug and fields, where that of the pages at the top is q
 abbrev pub AllPlaced : (ℕ → Option ℕ → List ℕ → Body → Type 0) → Option ℕ → Forest Body → Type 0
@@ -23,7 +23,7 @@ module _ (P : ℕ → Option ℕ → List ℕ → Body → Type 0) where
       AllPlaced P q f
   placed_from_rows q path url bare all = tt
   placed_from_rows q path url (grown i s slug body kids rest) all =
-      let parts = All-parts _ (rows_below (Some i) (path ++ s ∷ []) (child_url url slug) kids)
+      let parts = all_parts _ (rows_below (Some i) (path ++ s ∷ []) (child_url url slug) kids)
       (rows_below q path url rest) all.1 in (
         all.0,
         placed_from_rows (Some i) (path ++ s ∷ []) (child_url url slug) kids parts.0,

@@ -14,6 +14,7 @@ use Rattle.page_store.proofs.AllLemmas.{All-append}
 use Rattle.page_store.proofs.RangeLemmas.{All-drop}
 use Rattle.page_store.proofs.SeenLemmas.{found_by_own_id}
 use Rattle.path_moves.proofs.ApplyChanges.{changes-told}
+use Rattle.page_store.proofs.WindowLemmas.{All-take}
 
 -- R holds of the rows at each place of two lists, which are equally long
 abbrev EachTwo : (Page → Page → Type 0) → List Page → List Page → Type 0
@@ -192,13 +193,6 @@ module _ (urls : List (ℕ × List ℕ)) (before : List Page) where
       let head = counted_one (length (kids_in x.id all)) x y agree.0 count in
       let tail = counted_all all whole same rows after agree.1 counts.1 in
       rw (head, tail) refl
-
--- what holds of each element holds of each of the first
-All-take : {X : Type 0} (P : X → Type 0) (n : ℕ) (xs : List X) → AllByRecursion P xs →
-    AllByRecursion P (take n xs)
-All-take P zero xs all = tt
-All-take P (suc n) [] all = tt
-All-take P (suc n) (x ∷ xs) all = (all.0, All-take P n xs all.1)
 
 -- what holds of each row holds of each where some are moved
 pub All-range_moved : (P : Page → Type 0) (from n place : ℕ) (rows : List Page) →

@@ -23,7 +23,7 @@ use Rattle.path_moves.proofs.ApplyAfter.{distinct_tree, left_lacks}
 use Rattle.path_moves.proofs.ApplyOrder.{parted-graft, map-window_moved, window_moved-parted}
 use Rattle.path_moves.proofs.CallLemmas.{ids_of-rows, deleted_is}
 use Rattle.path_moves.proofs.LawLemmas.{cut_is, leading-front, other_id}
-use Rattle.tree_rows.proofs.Lists.{All-parts, filter_all, filter_none}
+use Rattle.tree_rows.proofs.Lists.{all_parts, filter_all, filter_none}
 use Rattle.tree_rows.proofs.SiteTree.{rising_tree, apart_tree}
 
 -- the ids of rows
@@ -84,7 +84,8 @@ outside_range pages row place n range =
 first_of : (rows : List Page) (id : ℕ) (ids : List ℕ) → row_ids rows ≡ id ∷ ids →
     option_map (λ (row : Page). row.id) (slice_get rows 0) ≡ Some id
 first_of [] id ids is = absurd cc
-first_of (row ∷ rows) id ids is = let same : row.id ≡ id = cc in ap Some same
+first_of (row ∷ rows) id ids is =
+    let same : row.id ≡ id = cc in ap Some same
 
 -- the place of a page is behind the ids that stand before its own
 place_behind : (page : ℕ) (rows : List Page) (front behind : List ℕ) →
@@ -178,7 +179,7 @@ move_in_place tree page parent place row from n are found range each here lands 
     (ids_of-rows None [] [] left)
     (All-map (λ id. id ≡ page → ⊥) (λ (r : Page). r.id) (rows_of left)
     (rows_ids (λ j. j ≡ page → ⊥) None [] [] left lacks_left)) in
-    let lacks_parts = All-parts (λ id. id ≡ page → ⊥) parted.front parted.behind
+    let lacks_parts = all_parts (λ id. id ≡ page → ⊥) parted.front parted.behind
     (subst (λ ids. AllByRecursion (λ id. id ≡ page → ⊥) ids) parted.whole_is lacks_ids) in
     let later : row_ids (rows_of (graft parent place (node_of page tree) left))
     ≡ parted.front ++ ((page ∷ own) ++ parted.behind) =

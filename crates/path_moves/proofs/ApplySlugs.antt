@@ -13,6 +13,7 @@ use Rattle.page_store.proofs.InsertLemmas.{bytes_eq-self, all_fail_from_find}
 use Rattle.page_store.proofs.KeptLemmas.{found_passes}
 use Rattle.page_store.proofs.SeenLemmas.{All-find}
 use Rattle.page_store.proofs.SlugLemmas.{kid_passes, others_differ}
+pub use Rattle.page_tree.proofs.RowLemmas.{found_id}
 
 -- What is known of a page behind a move: it was there, and all but its parent is as it was; its
 -- parent too, where it is not the page that moved.
@@ -71,11 +72,6 @@ free_below before page parent a own free j b found differ below same =
         (others_differ (λ (r : Page). is_parent parent r.parent && bytes_eq r.slug a.slug) before c
         own e) found
         (told_apart b.id c.id apart) (below ∙ sym kid.0) (same ∙ sym kid.1)
-
--- what is found by an id has the id
-pub found_id : (id : ℕ) (rows : List Page) (row : Page) → row_with id rows ≡ Some row → row.id ≡ id
-found_id id rows row found =
-    id_found row.id id (found_passes (λ (r : Page). nat_eq r.id id) rows row found)
 
 -- the slug of the page that moved is free, told of any row of it
 free_at : (before : List Page) (page parent : ℕ) (a : Page) → row_with page before ≡ Some a →

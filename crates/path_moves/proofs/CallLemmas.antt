@@ -21,6 +21,7 @@ use Rattle.tree_rows.specs.Subtree.{last_of, subtree_rows, step_after}
 use Rattle.path_moves.specs.Append.{path_below, appended_path}
 use Rattle.tree_rows.proofs.Lists.{slice_get-drop}
 use Rattle.tree_rows.proofs.SubtreeLemmas.{range_rows, last_path_is, found_block, block_rows, step_after-last}
+use Rattle.tree_rows.proofs.Lists.{take_one_more}
 
 -- the row of a page keeps the text of its path
 pub row_text : (pages : List Page) (id : ℕ) (kept : PageRow) (text : List ℕ) → ArePages pages →
@@ -149,13 +150,6 @@ pub at_is_there : (pages : List Page) (place n done : ℕ) → place + n ≤ len
 at_is_there pages place n done within low none =
     let one = there_is pages (place + done) (omega arith) in
     let never = rw one.1 at none in cc
-
--- one element more at the front
-take_one_more : {X : Type 0} (xs : List X) (n : ℕ) (x : X) → slice_get xs n ≡ Some x →
-    take (suc n) xs ≡ take n xs ++ x ∷ []
-take_one_more [] n x is = absurd cc
-take_one_more (y ∷ xs) zero x is = let same : y ≡ x = cc in ap (λ z. z ∷ []) same
-take_one_more (y ∷ xs) (suc n) x is = ap (λ ys. y ∷ ys) (take_one_more xs n x is)
 
 -- the ids of one page more
 pub ids_more : (pages : List Page) (place done id : ℕ) (ids new : List ℕ) →

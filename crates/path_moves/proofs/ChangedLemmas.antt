@@ -18,7 +18,7 @@ use Rattle.page_store.proofs.InsertLemmas.{bytes_eq-self, same_bytes}
 use Rattle.page_store.proofs.SeenLemmas.{found_by_own_id}
 use Rattle.tree_rows.specs.Cuts.{moved_rows, relabel_row, raise_row, raised_path}
 use Rattle.path_moves.specs.Spots.{moved_pair, raised_pair}
-use Rattle.tree_rows.proofs.Lists.{All-parts, filter_all, filter_none}
+use Rattle.tree_rows.proofs.Lists.{all_parts, filter_all, filter_none}
 use Rattle.tree_rows.proofs.Paths.{GoesOn}
 use Rattle.path_moves.proofs.GraftLemmas.{raised_path-changes}
 use Rattle.path_moves.proofs.RelabelLemmas.{pair_of}
@@ -216,7 +216,7 @@ pub short_height : (most : ℕ) (parent : Option ℕ) (path url : List ℕ) (f :
 short_height most parent path url bare short all = omega arith
 short_height most parent path url (grown i s slug body kids rest) short all =
     let long = length_push path s in
-    let parts = All-parts (λ (row : Page). length row.path ≤ most) _ _ all.1 in
+    let parts = all_parts (λ (row : Page). length row.path ≤ most) _ _ all.1 in
     let first = all.0 in
     let below = short_height most (Some i) (path ++ s ∷ []) (child_url url slug) kids first parts.0
     in

@@ -8,12 +8,14 @@ pub mod Remaining
 pub mod Landing
 pub mod RelabelLemmas
 pub mod Positions
+pub mod BehindKids
 pub mod Behind
 pub mod ChangedLemmas
 pub mod After
 pub mod PlanParts
 pub mod Planned
 pub mod Verdicts
+pub mod VerdictPlans
 pub mod Answered
 pub mod ApplyChanges
 pub mod ApplyMatched

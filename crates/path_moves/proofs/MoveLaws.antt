@@ -23,7 +23,7 @@ use Rattle.path_moves.proofs.LawLemmas.{block_in, cut_is, graft_is, relabelled_i
 use Rattle.path_moves.proofs.PlaceLemmas.{first_is, before_is, kid_step}
 
 -- the ids of rows that differ are distinct
-distinct_rows : (rows : List Page) → EachPair HasOtherId rows →
+pub distinct_rows : (rows : List Page) → EachPair HasOtherId rows →
     IsDistinct nat_eq (map (λ (row : Page). row.id) rows)
 unfolding IsDistinct
 distinct_rows [] own = tt

@@ -15,7 +15,7 @@ use Rattle.tree_rows.specs.Cuts.{with_count, raise_row, end_of, put_from, place_
 use Rattle.path_moves.specs.Laws.{Page, IsTree}
 use Rattle.tree_rows.proofs.Apart.{AreApart-distinct}
 use Rattle.tree_rows.proofs.Block.{Block}
-use Rattle.tree_rows.proofs.Lists.{filter_middle, All-parts}
+use Rattle.tree_rows.proofs.Lists.{filter_middle, all_parts}
 use Rattle.tree_rows.proofs.SubtreeLemmas.{rows_begin}
 use Rattle.path_moves.proofs.GraftLemmas.{siblings_of, kid_count-raised, rows_below-placed, rows_below-raised}
 use Rattle.path_moves.proofs.LawLemmas.{leading-front, other_id, raise-others, block_in}
@@ -72,7 +72,7 @@ same_place id (z ∷ xs) x ys [] top behind same own before after =
     let tails : xs ++ x ∷ ys ≡ behind = cc in
     let moved = subst (λ rows. AllByRecursion (λ (row : Page). row.id ≡ id → ⊥) rows) (sym tails)
     after in
-    absurd ((All-parts (λ (row : Page). row.id ≡ id → ⊥) xs (x ∷ ys) moved).1.0 own)
+    absurd ((all_parts (λ (row : Page). row.id ≡ id → ⊥) xs (x ∷ ys) moved).1.0 own)
 same_place id (z ∷ xs) x ys (y ∷ front) top behind same own before after =
     let tails : xs ++ x ∷ ys ≡ front ++ top ∷ behind = cc in
     let more = same_place id xs x ys front top behind tails own before.1 after in
@@ -165,8 +165,8 @@ first_is parent id step slug body kids tree top is found =
 -- a step behind one path is told by the whole path
 pub same_step : (path : List ℕ) (s t : ℕ) → path ++ s ∷ [] ≡ path ++ t ∷ [] → s ≡ t
 same_step [] s t same = cc
-same_step (x ∷ path) s t same = same_step path s t (let rest : path ++ s ∷ [] ≡ path
-    ++ t ∷ [] = cc in rest)
+same_step (x ∷ path) s t same =
+    same_step path s t (let rest : path ++ s ∷ [] ≡ path ++ t ∷ [] = cc in rest)
 
 -- a graft before a kid
 pub before_is : (parent sibling id step : ℕ) (slug : List ℕ) (body : Body)

@@ -25,7 +25,7 @@ use Rattle.page_store.proofs.SeenLemmas.{found_by_own_id}
 use Rattle.path_moves.specs.declared.spot.Spot.{Spot}
 use Rattle.tree_rows.specs.Cuts.{moved_rows, relabel_row, raise_row, raised_path, place_of}
 use Rattle.path_moves.specs.Spots.{place_of_spot, place_without, moved_pair, raised_pair, FitBelow, GoesUp}
-use Rattle.tree_rows.proofs.Lists.{All-parts}
+use Rattle.tree_rows.proofs.Lists.{all_parts}
 use Rattle.tree_rows.proofs.Paths.{GoesOn}
 use Rattle.tree_rows.proofs.SubtreeLemmas.{range_rows, range_some}
 use Rattle.path_moves.proofs.LawLemmas.{leading-front, other_id}
@@ -129,7 +129,7 @@ module _ (tree : Forest Body) (page parent : ℕ) (top above : Page) (p n a m : 
       (between_split (suc a) from (a + m) (rows_of tree) (omega arith) high)
       ∙ filter-append (λ (row : Page). not (moving row)) (between (suc a) from (rows_of tree))
       (between from (a + m) (rows_of tree)) in
-      (All-parts _ _ _ (subst (AllByRecursion (λ (row : Page).
+      (all_parts _ _ _ (subst (AllByRecursion (λ (row : Page).
       GoesOn above.path 0 (last_step 0 (kids_of parent (without page tree))) row.path)) split
       all)).1
 
@@ -247,8 +247,8 @@ module _ (tree : Forest Body) (page parent : ℕ) (top above : Page) (p n a m : 
   fits_after high_enough =
       let all = subst (AllByRecursion (λ (row : Page). length row.path ≤ MAX_DEPTH)) parts
       (short_rows MAX_DEPTH None [] [] (moved page parent place tree) (omega arith)) in
-      let own = (All-parts (λ (row : Page). length row.path ≤ MAX_DEPTH)
-      (moved_rows parent path url (top ∷ inner)) _ (All-parts (λ (row : Page).
+      let own = (all_parts (λ (row : Page). length row.path ≤ MAX_DEPTH)
+      (moved_rows parent path url (top ∷ inner)) _ (all_parts (λ (row : Page).
       length row.path ≤ MAX_DEPTH) (map shown (failing moving (take from (rows_of tree)))) _
       all).1).0 in
       subst (FitBelow top.path path) (sym own_rows) (

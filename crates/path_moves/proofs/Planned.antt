@@ -143,13 +143,6 @@ into_told pages tree page target position own goal r same are found goal_found m
         ∙ sym (into_is tree page target position top beside (subst ArePages same are) (ap (row_with page)
         (sym same) ∙ e) (ap (row_with target) (sym same) ∙ f) moves)
 
--- each place needs the step behind the last kid
-pub full_is : (tree : Forest Body) (parent : ℕ) (place : Place) →
-    is_full tree parent place ≡ nat_lt LAST_STEP (last_step 0 (kids_of parent tree) + 1)
-full_is tree parent First = refl
-full_is tree parent (Before sibling) = refl
-full_is tree parent End = refl
-
 -- What the program is asked: the two pages are there, and how they stand.
 pub record Asked (tree : Forest Body) (page target : ℕ) (position : Position)
     (own goal : Standing) : Type 0 where

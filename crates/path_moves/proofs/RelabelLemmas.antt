@@ -18,7 +18,7 @@ use Rattle.page_store.proofs.RangeLemmas.{All-at}
 use Rattle.page_store.proofs.WindowLemmas.{there_is}
 use Rattle.tree_rows.specs.Cuts.{other_rows, raised_path}
 use Rattle.path_moves.specs.Spots.{rows_between, moved_pair, raised_pair, FitBelow, GoesUp}
-use Rattle.tree_rows.proofs.Lists.{All-parts, slice_get-drop, slice_get-window, slice_get-append}
+use Rattle.tree_rows.proofs.Lists.{all_parts, slice_get-drop, slice_get-window, slice_get-append}
 use Rattle.path_moves.proofs.GraftLemmas.{raised_path-append}
 use Rattle.tree_rows.proofs.SubtreeLemmas.{found_at_place, range_some}
 use Rattle.path_moves.proofs.Windows.{between, between_split, between_next, between_last, take_last}
@@ -124,7 +124,7 @@ holds_between P pages own from end place row all low high at out =
     let test : Page → Bool = λ r. not (begins own r.path) in
     let parts = filter-append (λ (r : Page). not (begins own r.path)) (between from place pages)
     (between place end pages) in
-    let late = (All-parts P _ _ (subst (AllByRecursion P)
+    let late = (all_parts P _ _ (subst (AllByRecursion P)
     (ap (other_rows own) (between_split from place end pages low (omega arith)) ∙ parts) all)).1 in
     let one : other_rows own (row ∷ between (suc place) end pages)
     ≡ row ∷ other_rows own (between (suc place) end pages) = rw out refl in

@@ -17,6 +17,7 @@ use Rattle.tree_rows.proofs.Lists.{filter_middle}
 use Rattle.tree_rows.proofs.SubtreeLemmas.{fails_from}
 use Rattle.path_moves.proofs.LawLemmas.{leading-front, other_id}
 use Rattle.path_moves.proofs.Windows.{between, failing, Passes, between_next, two_splits, take_last, take_split, All-narrower}
+pub use Rattle.page_tree.proofs.RowLemmas.{found_id}
 
 -- what holds of each element holds of those that are kept
 pub All-kept : {X : Type 0} (P : X → Type 0) (test : X → Bool) (xs : List X) →
@@ -82,20 +83,6 @@ end_of-parts path front y ys behind out inside rest =
     let middle = filter_middle (λ (row : Page). begins path row.path) front (y ∷ ys) behind out
     inside rest in
     rw (start, middle) refl
-
--- a row is found with its id
-pub found_id : (id : ℕ) (rows : List Page) (row : Page) → row_with id rows ≡ Some row →
-    row.id ≡ id
-found_id id [] row found = absurd cc
-found_id id (one ∷ rows) row found = by (nat_eq one.id id) refl found (found_id id rows row)
-  where
-    by : (t : Bool) → nat_eq one.id id ≡ t → cond t (Some one) (row_with id rows) ≡ Some row →
-        (row_with id rows ≡ Some row → row.id ≡ id) → row.id ≡ id
-    by true e found more =
-        let same : one ≡ row = cc in
-        let own : one.id ≡ id = grind (arith, nat_tests) in
-        ap (λ (r : Page). r.id) (sym same) ∙ own
-    by false e found more = more found
 
 -- one child less leaves a row's place
 pub lower_keeps : (parent : Option ℕ) (row : Page) →

@@ -18,7 +18,7 @@ use Rattle.page_store.specs.Pages.{Page, EachPair, IsBefore, HasOtherId, StartsA
 use Rattle.page_store.proofs.AllLemmas.{All-append, All-weaker}
 use Rattle.page_store.proofs.WindowLemmas.{comes_before-behind}
 use Rattle.tree_rows.proofs.Apart.{Lacks, AreApart, rows_ids, rows_parents}
-use Rattle.tree_rows.proofs.Lists.{All-parts, All-turned}
+use Rattle.tree_rows.proofs.Lists.{all_parts, All-turned}
 use Rattle.tree_rows.proofs.Paths.{GoesOn, rows_go_on}
 
 -- pairs within two lists and across them are the pairs of both
@@ -125,7 +125,7 @@ pub within_from_rows : (parent : Option ℕ) (path url : List ℕ) (f : Forest B
 within_from_rows parent path url bare paths = tt
 within_from_rows parent path url (grown i s slug body kids rest) paths =
     let steps = AreSteps-parts path (s ∷ []) paths.0.steps in
-    let parts = All-parts _ _ _ paths.1 in (
+    let parts = all_parts _ _ _ paths.1 in (
       steps.1.0.1,
       within_from_rows (Some i) (path ++ s ∷ []) (child_url url slug) kids parts.0,
       within_from_rows parent path url rest parts.1,
@@ -157,7 +157,7 @@ starts_at_root tree root =
 pub root_from_rows : (tree : Forest Body) → StartsAtRoot (rows_of tree) → HasRoot tree
 root_from_rows bare starts = absurd starts
 root_from_rows (grown i s slug body kids rest) starts =
-    let parts = All-parts _ (rows_below (Some i) (s ∷ []) (child_url [] slug) kids)
+    let parts = all_parts _ (rows_below (Some i) (s ∷ []) (child_url [] slug) kids)
     (rows_below None [] [] rest) starts.1 in
     alone rest parts.1
   where

@@ -19,7 +19,7 @@ use Rattle.page_store.proofs.AllLemmas.{All-append, All-both, All-weaker}
 use Rattle.page_store.proofs.InsertLemmas.{same_bytes, bytes_eq-self}
 use Rattle.page_store.proofs.PathOrder.{comes_before-self}
 use Rattle.tree_rows.proofs.Apart.{Lacks, AreApart, kids_of-lacks, lacks_after}
-use Rattle.tree_rows.proofs.Lists.{All-parts}
+use Rattle.tree_rows.proofs.Lists.{all_parts}
 use Rattle.path_moves.proofs.LawLemmas.{block_in}
 
 -- paths in order differ
@@ -66,7 +66,7 @@ parents_below : (whole : List Page) (q : Option ℕ) (path url : List ℕ) (f : 
     AllByRecursion (λ (row : Page). row.parent ≡ parent_id row.path whole) (rows_below q path url f)
 parents_below whole q path url bare top found = tt
 parents_below whole q path url (grown i s slug body kids rest) top found =
-    let parts = All-parts _ (rows_below (Some i) (path ++ s ∷ []) (child_url url slug) kids)
+    let parts = all_parts _ (rows_below (Some i) (path ++ s ∷ []) (child_url url slug) kids)
     (rows_below q path url rest) found.1 in (
       sym (ap (λ p. page_at_path p whole) (above-push path s) ∙ top),
       All-append _ _ _

@@ -16,7 +16,7 @@ use Rattle.site_types.specs.declared.position.Position.TheVariants.{FirstChild, 
 use Rattle.tree_model.specs.Places.{is_beside, parent_at, place_at, place_behind, moved_to}
 use Rattle.tree_model.specs.Limits.{height, is_full, is_too_deep}
 use Rattle.tree_model.specs.Changes.{changed_paths}
-use Rattle.tree_model.proofs.PlaceLemmas.{IsAmong}
+use Rattle.tree_model.proofs.PlaceLemmas.{IsAmong, full_told}
 use Rattle.page_store.specs.declared.plan.MovePlan.{MovePlan}
 use Rattle.page_store.specs.Pages.{Page}
 use Rattle.page_store.specs.Search.{begins}
@@ -41,7 +41,7 @@ use Rattle.path_moves.proofs.Behind.{IsSpot, target_place, target_end, behind_sp
 use Rattle.path_moves.proofs.ChangedLemmas.{relabelled-self, relabelled-same}
 use Rattle.path_moves.proofs.After.{spot_path}
 use Rattle.path_moves.proofs.PlanParts as parts
-use Rattle.path_moves.proofs.Planned.{Leads, full_is}
+use Rattle.path_moves.proofs.Planned.{Leads}
 
 -- the answer with this plan
 abbrev pub plan_with : ℕ → ℕ → ℕ → List (ℕ × List ℕ) → Result MovePlan PathFault
@@ -53,7 +53,7 @@ plan_with page parent place list = Ok (record {
 })
 
 -- a test of a number above another
-not_above : (n k : ℕ) → k ≤ n → nat_lt n k ≡ false
+pub not_above : (n k : ℕ) → k ≤ n → nat_lt n k ≡ false
 not_above n k few = grind (arith, nat_tests)
 
 -- the same test where it is above
@@ -272,7 +272,7 @@ module _ (tree : Forest Body) (page target : ℕ) (position : Position) (own goa
   steps_full none =
       let never = none last_row.0 last_row.1 in
       let full : is_full (without page tree) parent place ≡ true =
-      full_is (without page tree) parent place
+      full_told (without page tree) parent place
       ∙ is_above LAST_STEP next_step (λ few. never (subst (λ k. k ≤ LAST_STEP) (sym step_told) few))
       in
       rw (it.not_into, full) refl
@@ -320,7 +320,7 @@ module _ (tree : Forest Body) (page target : ℕ) (position : Position) (own goa
       planned_move tree page target position ≡ Err TooDeep
   deep room many =
       let full : is_full (without page tree) parent place ≡ false =
-      full_is (without page tree) parent place ∙ not_above LAST_STEP next_step room in
+      full_told (without page tree) parent place ∙ not_above LAST_STEP next_step room in
       let high : is_too_deep (moved_to tree page target position) ≡ true =
       is_above MAX_DEPTH (height (moved_to tree page target position))
       (λ few. many (parts.fits_after tree page parent it.asks.top it.outer own.place own.count
@@ -356,105 +356,3 @@ module _ (tree : Forest Body) (page target : ℕ) (position : Position) (own goa
       (sym it.outer_is.path_is)
       (parts.later_go_up tree page parent it.asks.top it.outer own.place own.count above.place
       above.count it.at place spot spot_is among within.0 within.1 room))
-
-  -- with its own path each has few enough steps
-  fits_same : path ≡ it.asks.top.path → FitBelow it.asks.top.path path own_rows
-  fits_same same =
-      All-both (λ (row : Page). BeginsWith it.asks.top.path row.path)
-      (λ (row : Page). IsPath row.path)
-      (λ (row : Page). length (relabelled it.asks.top.path path row.path) ≤ MAX_DEPTH)
-      (λ (row : Page) on is. subst (λ xs. length xs ≤ MAX_DEPTH)
-      (sym (relabelled-same it.asks.top.path path row.path on same)) is.within) own_rows
-      it.at.range.inside
-      (All-take (λ (row : Page). IsPath row.path) own.count (drop own.place (rows_of tree))
-      (All-drop (λ (row : Page). IsPath row.path) own.place (rows_of tree) it.at.are.paths))
-
-  -- the plan, where the changes are known
-  planned : (list : List (ℕ × List ℕ)) → next_step ≤ LAST_STEP →
-      FitBelow it.asks.top.path path own_rows →
-      list ≡ changed_paths (rows_of tree) (rows_of (moved_to tree page target position)) →
-      planned_move tree page target position ≡ Ok (record {
-        page = page;
-        parent = parent;
-        place = place_without own.place own.count (place_of_spot spot above.place end);
-        rows = list;
-      })
-  planned list room fits is =
-      let full : is_full (without page tree) parent place ≡ false =
-      full_is (without page tree) parent place ∙ not_above LAST_STEP next_step room in
-      let few = parts.after_fits tree page parent it.asks.top it.outer own.place own.count
-      above.place above.count it.at place spot spot_is among within.0 within.1 fits in
-      let shallow : is_too_deep (moved_to tree page target position) ≡ false =
-      not_above MAX_DEPTH (height (moved_to tree page target position)) few in
-      let here = parts.place_after tree page parent it.asks.top it.outer own.place own.count
-      above.place above.count it.at place spot spot_is among within.0 within.1 in
-      rw (it.not_into, full, shallow) (same_plan _ _ _ _ here (sym is))
-    where
-      same_plan : (k k' : ℕ) (list list' : List (ℕ × List ℕ)) → k ≡ k' → list ≡ list' →
-          plan_with page parent k list ≡ plan_with page parent k' list'
-      same_plan k k' list list' one more = rw (one, more) refl
-
-  -- The plan that the program makes.
-  pub plan_made : (new : List ℕ) (list : List (ℕ × List ℕ)) → next_step ≤ LAST_STEP →
-      new ≡ path →
-      (own.path ≡ new → list ≡ map (raised_pair (length above.path)) (other_rows own.path
-      (rows_between (place_of_spot spot above.place end) end (rows_of tree)))) →
-      ((own.path ≡ new → ⊥) → list ≡ map (moved_pair own.path new) own_rows
-      ++ map (raised_pair (length above.path)) (other_rows own.path
-      (rows_between (place_of_spot spot above.place end) end (rows_of tree)))) →
-      ((own.path ≡ new → ⊥) → FitBelow own.path new own_rows) →
-      planned_move tree page target position ≡ Ok (record {
-        page = page;
-        parent = parent;
-        place = place_without own.place own.count (place_of_spot spot above.place end);
-        rows = list;
-      })
-  plan_made new list room is same other fits =
-      by (bytes_eq own.path new) refl
-    where
-      raised_is : map (raised_pair (length above.path)) (other_rows own.path
-          (rows_between (place_of_spot spot above.place end) end (rows_of tree)))
-          ≡ map (raised_pair (length it.outer.path)) later
-      raised_is =
-          ap (λ p. map (raised_pair (length p)) (other_rows own.path
-          (rows_between (place_of_spot spot above.place end) end (rows_of tree))))
-          it.outer_is.path_is
-          ∙ ap (λ p. map (raised_pair (length it.outer.path)) (other_rows p
-          (rows_between (place_of_spot spot above.place end) end (rows_of tree))))
-          it.asks.own_is.path_is
-
-      moved_is : map (moved_pair own.path new) own_rows
-          ≡ map (moved_pair it.asks.top.path path) own_rows
-      moved_is =
-          ap (λ p. map (moved_pair p new) own_rows) it.asks.own_is.path_is
-          ∙ ap (λ p. map (moved_pair it.asks.top.path p) own_rows) is
-
-      by : (t : Bool) → bytes_eq own.path new ≡ t →
-          planned_move tree page target position ≡ Ok (record {
-            page = page;
-            parent = parent;
-            place = place_without own.place own.count (place_of_spot spot above.place end);
-            rows = list;
-          })
-      by true e =
-          let one = same_bytes own.path new e in
-          let keeps : path ≡ it.asks.top.path = sym is ∙ (sym one ∙ it.asks.own_is.path_is) in
-          planned list room (fits_same keeps)
-          (same one ∙ (raised_is ∙ sym (parts.changed_same tree page parent it.asks.top it.outer
-          own.place own.count above.place above.count it.at place spot spot_is among within.0
-          within.1 keeps)))
-      by false e =
-          let differs : own.path ≡ new → ⊥ = λ one.
-          (let never : bytes_eq own.path new ≡ true =
-          ap (λ p. bytes_eq own.path p) (sym one) ∙ bytes_eq-self own.path in cc) in
-          let changes : path ≡ it.asks.top.path → ⊥ = λ keeps.
-          differs (it.asks.own_is.path_is ∙ (sym keeps ∙ sym is)) in
-          planned list room
-          (subst (λ old. FitBelow old path own_rows) it.asks.own_is.path_is
-          (subst (λ p. FitBelow own.path p own_rows) is (fits differs)))
-          (other differs ∙ (ap (λ xs. xs ++ map (raised_pair (length above.path)) (other_rows
-          own.path (rows_between (place_of_spot spot above.place end) end (rows_of tree))))
-          moved_is
-          ∙ (ap (λ xs. map (moved_pair it.asks.top.path path) own_rows ++ xs) raised_is
-          ∙ sym (parts.changed_other tree page parent it.asks.top it.outer own.place own.count
-          above.place above.count it.at place spot spot_is among within.0 within.1 changes))))

@@ -8,7 +8,7 @@ use Rattle.std.proofs.lemmas.List.Elements.{filter-append}
 use Rattle.tree_rows.specs.Subtree.{last_of}
 use Rattle.page_store.proofs.AllLemmas.{All-weaker}
 use Rattle.page_store.proofs.RangeLemmas.{drop_at_place}
-use Rattle.tree_rows.proofs.Lists.{All-parts, filter_all, filter_none, last_of-push}
+use Rattle.tree_rows.proofs.Lists.{all_parts, filter_all, filter_none, last_of-push}
 
 module _ {X : Type 0} where
   -- the elements from one place up to another
@@ -90,24 +90,24 @@ module _ {X : Type 0} where
       AllByRecursion P (between i k xs) → AllByRecursion P (between a b xs)
   All-narrower P i a b k xs low some high all =
       let first = subst (AllByRecursion P) (between_split i a k xs low (omega arith)) all in
-      let late = (All-parts P _ _ first).1 in
+      let late = (all_parts P _ _ first).1 in
       let second = subst (AllByRecursion P) (between_split a b k xs some high) late in
-      (All-parts P _ _ second).0
+      (all_parts P _ _ second).0
 
   -- what holds of the first elements holds in a window among them
   pub All-front : (P : X → Type 0) (a b k : ℕ) (xs : List X) → a ≤ b → b ≤ k →
       AllByRecursion P (take k xs) → AllByRecursion P (between a b xs)
   All-front P a b k xs some high all =
-      let late = (All-parts P _ _ (subst (AllByRecursion P)
+      let late = (all_parts P _ _ (subst (AllByRecursion P)
       (take_split a k xs (omega arith)) all)).1 in
-      (All-parts P _ _ (subst (AllByRecursion P) (between_split a b k xs some high) late)).0
+      (all_parts P _ _ (subst (AllByRecursion P) (between_split a b k xs some high) late)).0
 
   -- what holds of the elements behind a place holds in a window behind it
   pub All-behind : (P : X → Type 0) (j a b : ℕ) (xs : List X) → j ≤ a → a ≤ b →
       AllByRecursion P (drop j xs) → AllByRecursion P (between a b xs)
   All-behind P j a b xs low some all =
-      let late = (All-parts P _ _ (subst (AllByRecursion P) (drop_split j a xs low) all)).1 in
-      (All-parts P _ _ (subst (AllByRecursion P) (drop_split a b xs some) late)).0
+      let late = (all_parts P _ _ (subst (AllByRecursion P) (drop_split j a xs low) all)).1 in
+      (all_parts P _ _ (subst (AllByRecursion P) (drop_split a b xs some) late)).0
 
   -- A test passes in one window, and nowhere else.
   pub record Passes (test : X → Bool) (p n : ℕ) (xs : List X) : Type 0 where
@@ -163,7 +163,7 @@ module _ {X : Type 0} where
         length (failing test (take at xs)) ≡ at - min n (at - p)
     failing_before at within = elim (cases_lt p at) [
       | inr low ↦
-          let all = (All-parts (λ x. test x ≡ false) _ _
+          let all = (all_parts (λ x. test x ≡ false) _ _
           (subst (AllByRecursion (λ x. test x ≡ false)) (take_split at p xs low) on.front)).0 in
           let long = length-take-le at xs within in
           rw (failing_all (take at xs) all) (omega arith)

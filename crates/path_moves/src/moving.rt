@@ -79,9 +79,13 @@ pub fn plan_move(
 fn next_kid(rows: &Rows, own: &Standing, above: &Standing) -> Option<Step>
     requires own { own.now.place + own.now.count < 18446744073709551616 }
     requires above { above.now.place + above.now.count < 18446744073709551616 }
-    requires within { last_place own.now.place own.now.count (above.now.place + above.now.count) < length rows.now.pages }
-    ensures { (last : Page) → slice_get rows.now.pages (last_place own.now.place own.now.count (above.now.place + above.now.count)) ≡ Some last
-        → SomeIff result (step_after above.now.path last.path ≤ LAST_STEP) (step_after above.now.path last.path) }
+    requires within { last_place own.now.place own.now.count
+        (above.now.place + above.now.count) < length rows.now.pages }
+    ensures { (last : Page)
+        → slice_get rows.now.pages
+        (last_place own.now.place own.now.count (above.now.place + above.now.count)) ≡ Some last
+        → SomeIff result (step_after above.now.path last.path ≤ LAST_STEP)
+        (step_after above.now.path last.path) }
 {
     let Some(row) = row_at(rows, last_place(own, above.place + above.count)) else {
         unreachable!();
@@ -119,10 +123,13 @@ fn changes(
     requires below { AllByRecursion (λ row. BeginsWith own.now.path row.path)
         (take own.now.count (drop own.now.place rows.now.pages)) }
     ensures same { own.now.path ≡ path.now → from ≤ end → IfOk result
-        (λ list. list ≡ map (raised_pair (length above.now)) (other_rows own.now.path (rows_between from end rows.now.pages))) }
+        (λ list. list ≡ map (raised_pair (length above.now))
+        (other_rows own.now.path (rows_between from end rows.now.pages))) }
     ensures other { (own.now.path ≡ path.now → ⊥) → from ≤ end → IfOk result
-        (λ list. list ≡ map (moved_pair own.now.path path.now) (take own.now.count (drop own.now.place rows.now.pages))
-        ++ map (raised_pair (length above.now)) (other_rows own.now.path (rows_between from end rows.now.pages))) }
+        (λ list. list ≡ map (moved_pair own.now.path path.now)
+        (take own.now.count (drop own.now.place rows.now.pages))
+        ++ map (raised_pair (length above.now))
+        (other_rows own.now.path (rows_between from end rows.now.pages))) }
     ensures fits { (own.now.path ≡ path.now → ⊥) → IfOk result
         (λ _. FitBelow own.now.path path.now (take own.now.count (drop own.now.place rows.now.pages))) }
     ensures err { IfErr result (λ fault. (fault ≡ Memory)

@@ -26,7 +26,9 @@ pub(crate) fn list_moved(
         (take own.now.count (drop own.now.place rows.now.pages)) }
     ensures ok { OnOk result (list.new.items ≡ list.old.items
         ++ map (moved_pair own.now.path path.now) (take own.now.count (drop own.now.place rows.now.pages))) }
-    ensures fits { IfOk result (λ _. FitBelow own.now.path path.now (take own.now.count (drop own.now.place rows.now.pages))) }
+    ensures fits { IfOk result
+        (λ _. FitBelow own.now.path path.now
+        (take own.now.count (drop own.now.place rows.now.pages))) }
     ensures err { IfErr result (λ fault. (fault ≡ Memory) ⊎ ((fault ≡ TooDeep)
         × (FitBelow own.now.path path.now (take own.now.count (drop own.now.place rows.now.pages)) → ⊥))) }
 {
@@ -59,7 +61,8 @@ pub(crate) fn list_raised(
 ) -> Result<(), PathFault>
     requires within { end ≤ length rows.now.pages }
     ensures ok { from ≤ end → OnOk result (list.new.items ≡ list.old.items
-        ++ map (raised_pair (length above.now)) (other_rows own.now.path (rows_between from end rows.now.pages))) }
+        ++ map (raised_pair (length above.now))
+        (other_rows own.now.path (rows_between from end rows.now.pages))) }
     ensures err { IfErr result (λ fault. (fault ≡ Memory) ⊎ ((fault ≡ StepsFull)
         × (AllByRecursion (λ row. GoesUp above.now row.path)
         (other_rows own.now.path (rows_between from end rows.now.pages)) → ⊥))) }

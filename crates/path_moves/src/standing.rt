@@ -29,7 +29,8 @@ pub(crate) fn find(rows: &Rows, page: PageId) -> Standing
     ensures fits { result.place + result.count < 18446744073709551616 }
     ensures below { AllByRecursion (λ row. BeginsWith result.path row.path)
         (take result.count (drop result.place rows.now.pages)) }
-    ensures standing { (row : Page) → row_with page rows.now.pages ≡ Some row → IsStanding rows.now.pages row result }
+    ensures standing { (row : Page) → row_with page rows.now.pages ≡ Some row
+        → IsStanding rows.now.pages row result }
 {
     let _len = rows.len();
     let Some(path) = path_of(rows, page) else {

@@ -7,15 +7,8 @@ use Rattle.site_types.specs.declared.body.Body.{Body}
 use Rattle.page_store.specs.Changes.{with_body, body_changed}
 use Rattle.page_store.specs.Pages.{Page}
 use Rattle.publishing.specs.Times.{body_in}
-
--- two numbers the other way round
-pub eq_turned : (m n : ℕ) (t : Bool) → nat_eq m n ≡ t → nat_eq n m ≡ t
-eq_turned m n true h = grind (arith, nat_tests)
-eq_turned m n false h = grind (arith, nat_tests)
-
--- two numbers that equal a third equal each other
-pub eq_joined : (a b c : ℕ) → nat_eq a b ≡ true → nat_eq b c ≡ true → nat_eq a c ≡ true
-eq_joined a b c h k = grind (arith, nat_tests)
+use Rattle.time_table.proofs.EntryLemmas.{eq_turned}
+use Rattle.time_table.proofs.TableLemmas.{eq_joined}
 
 -- a number is itself
 pub eq_self : (n : ℕ) → nat_eq n n ≡ true

@@ -27,7 +27,9 @@ pub trait Answerer {
         now: Moment,
     ) -> Result<Answer, NoMemory>
         requires { (more : ℕ) × may_answer self.old (more + 1) }
-        ensures answered { IfOk result (λ answer. answers self.old (request_of request.now) now answer self.new) }
-        ensures may { (more : ℕ) → may_answer self.old (more + 1) → IfOk result (λ _. may_answer self.new more) }
+        ensures answered { IfOk result
+            (λ answer. answers self.old (request_of request.now) now answer self.new) }
+        ensures may { (more : ℕ) → may_answer self.old (more + 1)
+            → IfOk result (λ _. may_answer self.new more) }
         ensures err { OnErr result (gives_up self.old self.new) };
 }

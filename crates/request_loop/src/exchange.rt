@@ -47,8 +47,11 @@ pub fn exchange<A: Answerer, K: Sink, C: Clock>(
     clock: &mut C,
 ) -> Result<(), Interrupted>
     requires { (more : ℕ) × A.may_answer answerer.old (more + 1) }
-    ensures exchanged { Exchanges A.answers A.gives_up (C.coming clock.old 0) (request_of request.now) last answerer.old answerer.new (K.taken sink.old) (K.taken sink.new) result }
-    ensures may { (more : ℕ) → A.may_answer answerer.old (more + 1) → IfOk result (λ _. A.may_answer answerer.new more) }
+    ensures exchanged { Exchanges A.answers A.gives_up (C.coming clock.old 0)
+        (request_of request.now) last answerer.old answerer.new (K.taken sink.old)
+        (K.taken sink.new) result }
+    ensures may { (more : ℕ) → A.may_answer answerer.old (more + 1)
+        → IfOk result (λ _. A.may_answer answerer.new more) }
     ensures clock { (k : ℕ) → C.coming clock.new k ≡ C.coming clock.old (k + 1) }
     ensures later { K.faults sink.old ≤ K.faults sink.new }
     ensures failed { IsErrOf result Interrupted.InWriting → Rose (K.faults sink.old) (K.faults sink.new) }

@@ -31,7 +31,8 @@ impl Model for InputBuffer {
 
     ghost view = { λ buffer. held_in buffer.room.items buffer.from buffer.to };
 
-    ghost invariant = { λ buffer. (buffer.from ≤ buffer.to) × (buffer.to ≤ ROOM) × (length buffer.room.items ≡ ROOM) };
+    ghost invariant = { λ buffer. (buffer.from ≤ buffer.to) × (buffer.to ≤ ROOM)
+        × (length buffer.room.items ≡ ROOM) };
 }
 
 impl InputBuffer {
@@ -109,7 +110,8 @@ fn fill_room<S: Source>(room: &mut [u8], from: usize, to: usize, source: &mut S)
     ensures within { result.to ≤ length room.new }
     ensures bytes { with_front (held_in room.old from to) (S.left source.old)
         ≡ with_front (held_in room.new result.from result.to) (S.left source.new) }
-    ensures grows { (more : List ℕ) × (held_in room.new result.from result.to ≡ held_in room.old from to ++ more) }
+    ensures grows { (more : List ℕ)
+        × (held_in room.new result.from result.to ≡ held_in room.old from to ++ more) }
     ensures more { IfOk result.outcome (λ n. result.to - result.from ≡ (to - from) + n) }
     ensures ends { IfOk result.outcome (λ n. n ≡ 0
         → (held_in room.new result.from result.to ≡ held_in room.old from to) × IsSpent (S.left source.new)) }
@@ -153,7 +155,8 @@ fn make_room(room: &mut [u8], from: usize, to: usize) -> (usize, usize)
 fn read_behind<S: Source>(room: &mut [u8], to: usize, source: &mut S) -> Result<usize, Failed>
     requires { to < length room.old }
     ensures front { take to room.new ≡ take to room.old }
-    ensures moved { IfOk result (λ n. S.left source.old ≡ with_front (take n (drop to room.new)) (S.left source.new)) }
+    ensures moved { IfOk result
+        (λ n. S.left source.old ≡ with_front (take n (drop to room.new)) (S.left source.new)) }
     ensures fits { IfOk result (λ n. to + n ≤ length room.new) }
     ensures ends { IfOk result (λ n. n ≡ 0 → IsSpent (S.left source.new)) }
     ensures kept { OnErr result (S.left source.new ≡ S.left source.old) }

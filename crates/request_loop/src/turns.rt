@@ -32,7 +32,9 @@ pub fn serve<A: Answerer, S: Source, K: Sink, C: Clock>(
     requires some { 0 < limit }
     requires may { A.may_answer answerer.old limit }
     ensures ends { (bytes : List ℕ) → S.left source.old ≡ Some bytes
-        → Ends (Served A.answers A.gives_up limit answerer.old answerer.new bytes (S.left source.new) (C.coming clock.old) (C.coming clock.new)) limit (S.left source.new) (K.taken sink.old) (K.taken sink.new) result }
+        → Ends (Served A.answers A.gives_up limit answerer.old answerer.new bytes
+        (S.left source.new) (C.coming clock.old) (C.coming clock.new)) limit
+        (S.left source.new) (K.taken sink.old) (K.taken sink.new) result }
     ensures read_fault { result ≡ ConnectionEnd.ReadFault → Rose (S.faults source.old) (S.faults source.new) }
     ensures write_fault { result ≡ ConnectionEnd.WriteFault → Rose (K.faults sink.old) (K.faults sink.new) }
 {
@@ -70,7 +72,9 @@ fn serve_from<A: Answerer, S: Source, K: Sink, C: Clock>(
     requires empty { buffer.old ≡ [] }
     requires new { KnowsNothing reader.old }
     ensures ends { (bytes : List ℕ) → S.left source.old ≡ Some bytes
-        → Ends (Served A.answers A.gives_up limit answerer.old answerer.new bytes (S.left source.new) (C.coming clock.old) (C.coming clock.new)) limit (S.left source.new) (K.taken sink.old) (K.taken sink.new) result }
+        → Ends (Served A.answers A.gives_up limit answerer.old answerer.new bytes
+        (S.left source.new) (C.coming clock.old) (C.coming clock.new)) limit
+        (S.left source.new) (K.taken sink.old) (K.taken sink.new) result }
     ensures read_fault { result ≡ ConnectionEnd.ReadFault → Rose (S.faults source.old) (S.faults source.new) }
     ensures write_fault { result ≡ ConnectionEnd.WriteFault → Rose (K.faults sink.old) (K.faults sink.new) }
 {

@@ -15,7 +15,8 @@ seen_one : (o : Option Kept) (one : Revision) (revisions : List Revision) →
     option_map (λ (kept : Kept). kept.revision) o ≡ Some one →
     seen_before o revisions ≡ one ∷ revisions
 seen_one None one revisions h = cc
-seen_one (Some kept) one revisions h = let same : kept.revision ≡ one = cc in
+seen_one (Some kept) one revisions h =
+    let same : kept.revision ≡ one = cc in
     ap (λ (r : Revision). r ∷ revisions) same
 
 -- where each is what is kept of its id, they are what is seen of their ids

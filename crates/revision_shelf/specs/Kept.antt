@@ -47,7 +47,8 @@ led_to previous kept = record kept { previous = previous }
 
 -- the revisions without the last one of a page
 abbrev pub without_latest : ℕ → List Revision → List Revision
-without_latest page revisions = option_map_or (λ id. without id revisions) (latest_of page revisions) revisions
+without_latest page revisions = option_map_or (λ id. without id revisions)
+    (latest_of page revisions) revisions
 
 -- the ids rise from above this number
 abbrev pub IdsRise : ℕ → List ℕ → Type 0

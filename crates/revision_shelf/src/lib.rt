@@ -8,4 +8,4 @@ mod purge;
 mod remove;
 mod shelf;
 
-pub use shelf::Shelf;
+pub use shelf::{MAX_CONTENT_SUM, Shelf};

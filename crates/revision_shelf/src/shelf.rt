@@ -3,6 +3,9 @@ use indexmap::IndexMap;
 use site_types::{PageId, Revision, RevisionId};
 use std::marker::Model;
 
+/// The most bytes that the forms of all contents may have together.
+pub const MAX_CONTENT_SUM: u64 = 1_073_741_824;
+
 /// A revision as the shelf keeps it.
 #[derive(Debug, Drop)]
 pub(crate) struct Kept {
@@ -34,9 +37,11 @@ impl Model for Shelf {
 
     ghost view = { λ shelf. record {
       revisions = revisions_seen shelf.stored.entries shelf.order.items;
-      spare = min (min (spare shelf.stored) (spare shelf.newest)) (vec_capacity shelf.order - vec_len shelf.order);
+      spare = min (min (spare shelf.stored) (spare shelf.newest))
+          (vec_capacity shelf.order - vec_len shelf.order);
     } };
 
-    ghost invariant = { λ shelf. IsKept shelf.stored.entries shelf.newest.entries shelf.order.items shelf.weight
+    ghost invariant = { λ shelf. IsKept shelf.stored.entries shelf.newest.entries
+        shelf.order.items shelf.weight
         (revisions_seen shelf.stored.entries shelf.order.items) };
 }

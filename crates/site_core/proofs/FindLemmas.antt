@@ -70,7 +70,8 @@ slugs_below own kids all few = (
         let here = subst (λ i. 1 ≤ count i kids) same some in omega (arith, here, none)
 
 -- the pages of a sound world have slugs
-pub have_slugs : (part : TreePart) → IsTree part.tree part.next_page → (pages : List Page) → pages ≡ rows_of part.tree →
+pub have_slugs : (part : TreePart) → IsTree part.tree part.next_page → (pages : List Page) → pages
+    ≡ rows_of part.tree →
     HaveSlugs pages
 have_slugs part sound pages is =
     subst HaveSlugs (sym is)

@@ -15,6 +15,7 @@ use Rattle.site_model.specs.Step.{saved}
 use Rattle.site_model.specs.Sound.{KeysRise}
 use Rattle.desks.specs.Desks.{rewritten}
 use Rattle.site_core.specs.Texts.{row_of, desk_on, opened_on, saved_on, desk_left}
+use Rattle.page_tree.proofs.ListLemmas.{all_weaker}
 
 -- whether one of these pages is this one
 abbrev pub is_among : List ℕ → ℕ → Bool
@@ -80,18 +81,12 @@ kept_all P test (x ∷ xs) all = by (test x) (kept_all P test xs all.1)
     by true more = (all.0, more)
     by false more = more
 
--- what follows from what holds of each
-weaker : {X : Type 0} (P Q : X → Type 0) (xs : List X) → ((x : X) → P x → Q x) →
-    AllByRecursion P xs → AllByRecursion Q xs
-weaker P Q [] follows all = tt
-weaker P Q (x ∷ xs) follows all = (follows x all.0, weaker P Q xs follows all.1)
-
 -- the desks behind one are on other pages
 pub apart_in : (x : DeskPair) (pairs : List DeskPair) →
     AllByRecursion (λ (later : DeskPair). comes_before (desk_key x) (desk_key later) ≡ true) pairs →
     AllByRecursion (λ (later : DeskPair). later.page ≡ x.page → ⊥) pairs
 apart_in x pairs before =
-    weaker (λ (later : DeskPair). comes_before (desk_key x) (desk_key later) ≡ true)
+    all_weaker (λ (later : DeskPair). comes_before (desk_key x) (desk_key later) ≡ true)
     (λ (later : DeskPair). later.page ≡ x.page → ⊥) pairs
     (λ later first same. in_order x later first same) before
 
@@ -103,7 +98,7 @@ one_a_page [] rise = tt
 one_a_page (x ∷ pairs) rise = (
   (
     (λ same. refl),
-    weaker (λ (later : DeskPair). comes_before (desk_key x) (desk_key later) ≡ true)
+    all_weaker (λ (later : DeskPair). comes_before (desk_key x) (desk_key later) ≡ true)
         (λ (later : DeskPair). later.page ≡ x.page → later ≡ x) pairs
         (λ later before same. absurd (in_order x later before same)) rise.0,
   ),
@@ -265,7 +260,7 @@ module _ (effect : Effect) (desks : List Desk) (tells : TellsDesks effect desks)
   each_by_page =
       unmapped (EndsByPage effect.ended) desks
       (subst (λ ended. AllByRecursion (EndsByPage ended) (map pair_of desks)) (sym tells.ended)
-      (weaker (λ (pair : DeskPair). AllByRecursion
+      (all_weaker (λ (pair : DeskPair). AllByRecursion
       (λ (one : DeskPair). one.page ≡ pair.page → one ≡ pair) (map pair_of desks))
       (EndsByPage (filter tells.test (map pair_of desks))) (map pair_of desks)
       (λ pair all. ended_by_page pair (filter tells.test (map pair_of desks))
@@ -281,7 +276,7 @@ module _ (effect : Effect) (desks : List Desk) (tells : TellsDesks effect desks)
       (ended_by_page (pair_of desk) (filter tells.test (map pair_of desks))
       (kept_all (λ (one : DeskPair). one.page ≡ desk.page → one ≡ pair_of desk) tells.test
       (map pair_of desks)
-      (weaker (λ (one : DeskPair). one.page ≡ desk.page → ⊥)
+      (all_weaker (λ (one : DeskPair). one.page ≡ desk.page → ⊥)
       (λ (one : DeskPair). one.page ≡ desk.page → one ≡ pair_of desk) (map pair_of desks)
       (λ one none same. absurd (none same)) (none_there desk.page (map pair_of desks) free))))
 

@@ -36,7 +36,8 @@ pub(crate) fn prepare_step(
     ensures plan { (world : worlds.TreePart) → parts_stand.IsReady tree.old world
         → FitsCommand command.now
         → FitsDesk world caller (desk_page command.now) (kept_text desks.old caller (desk_page command.now))
-        → parts.Prepares world (kept_text desks.old caller (desk_page command.now)) now caller command.now tree.new result }
+        → parts.Prepares world (kept_text desks.old caller (desk_page command.now)) now caller
+        command.now tree.new result }
 {
     let desk = own_desk(desks, command, caller);
     let plan = prepare(alloc, tree, command, caller, now, desk)?;

@@ -81,7 +81,8 @@ impl DeskParts {
     /// no desk there; then nothing changes. One search.
     pub(crate) fn save(&mut self, page: PageId, user: UserId, text: Content) -> Result<(), Content>
         ensures outcome { result
-            ≡ (if is_some (text_in page user (list_of (stripe_of page) self.old.lists)) then Ok tt else Err text) }
+            ≡ (if is_some (text_in page user (list_of (stripe_of page) self.old.lists)) then Ok tt
+            else Err text) }
         ensures lists { self.new.lists ≡ set self.old.lists (stripe_of page)
             (with_text page user text (list_of (stripe_of page) self.old.lists)) }
         ensures kept { (other : ℕ) → kept_on other self.new.lists

@@ -17,19 +17,13 @@ use Rattle.tree_model.proofs.SiblingLemmas.{AreRising-without, AreWithin-without
 use Rattle.site_model.proofs.ClearLemmas.{limit_clear}
 use Rattle.site_model.proofs.RoomLemmas.{graft_room}
 use Rattle.site_model.proofs.RowLemmas.{rows_within, within_rows}
+use Rattle.tree_model.proofs.PlaceLemmas.{full_told}
 
 module _ {Body : Type 0} where
   -- whether a row has a step past the last
   abbrev pub has_past_step : List (Row Body) → Bool
   has_past_step rows =
       list_any (λ (row : Row Body). list_any (λ step. nat_lt LAST_STEP step) row.path) rows
-
-  -- a place is full where the step after the last one is past the last that there is
-  full_told : (tree : Forest Body) (parent : ℕ) (place : Place) →
-      is_full tree parent place ≡ nat_lt LAST_STEP (last_step 0 (kids_of parent tree) + 1)
-  full_told tree parent First = refl
-  full_told tree parent (Before sibling) = refl
-  full_told tree parent End = refl
 
   -- one more below a parent that stands once
   pub graft_is_full : (tree : Forest Body) (parent n at : ℕ) (slug : List ℕ) (own : Body)

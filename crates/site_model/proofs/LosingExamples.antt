@@ -52,6 +52,7 @@ c_within_a : is_within with_desks.tree 2 4 ≡ true
 unfolding needs_of front_rules row_of rules effect step_by desk_page
 c_within_a = refl
 
+-- page a is not within page c
 a_outside_c : is_within with_desks.tree 4 2 ≡ false
 unfolding needs_of front_rules row_of rules effect step_by desk_page
 a_outside_c = refl
@@ -81,6 +82,7 @@ c_lost_below_b : is_lost_below with_desks 4 3 (pair 4 2) ≡ true
 unfolding needs_of front_rules row_of rules effect step_by desk_page
 c_lost_below_b = refl
 
+-- the desk on page a stays when b moves
 a_kept_below_b : is_lost_below with_desks 2 3 (pair 2 2) ≡ false
 unfolding needs_of front_rules row_of rules effect step_by desk_page
 a_kept_below_b = refl
@@ -110,6 +112,7 @@ b_no_suspect : is_suspect with_desks (DesksBelow 2 1) (pair 3 2) ≡ false
 unfolding needs_of front_rules row_of rules effect step_by desk_page
 b_no_suspect = refl
 
+-- a desk of one who is no member is no suspect
 other_no_suspect : is_suspect with_desks (DesksBelow 2 1) (pair 4 1) ≡ false
 unfolding needs_of front_rules row_of rules effect step_by desk_page
 other_no_suspect = refl

@@ -1,42 +1,11 @@
 -- Lists that rise by their keys: one item more in its place, and what a test keeps.
-use Rattle.std.proofs.Common.{◌≡◌, ◌+◌, ℕ, Bool, true, false, cond, nat_eq, nat_lt, List, [], ◌∷◌, length, filter, refl, sym, arith}
-use Rattle.std.proofs.lemmas.Bool.Decides.{nat_tests}
+use Rattle.std.proofs.Common.{◌≡◌, ◌+◌, ℕ, Bool, true, false, cond, List, [], ◌∷◌, length, filter, refl, sym, arith}
 use Rattle.std.specs.List.{AllByRecursion}
 use Rattle.page_tree.specs.Rows.{comes_before}
+use Rattle.page_tree.proofs.OrderLemmas.{comes_before-trans, comes_before-other}
 use Rattle.tree_model.proofs.PageLemmas.{all_weaker}
 use Rattle.site_model.specs.Users.{put_in}
 use Rattle.site_model.specs.Sound.{KeysRise}
-
--- one number of two keys, each before the next
-before_step : (x y z : ℕ) (p q r : Bool) → (p ≡ true → q ≡ true → r ≡ true) →
-    cond (nat_eq x y) p (nat_lt x y) ≡ true → cond (nat_eq y z) q (nat_lt y z) ≡ true →
-    cond (nat_eq x z) r (nat_lt x z) ≡ true
-before_step x y z p q r h a b = grind (arith, nat_tests)
-
--- what comes before a key comes before those that the key comes before
-pub before_trans : (a b c : List ℕ) → comes_before a b ≡ true → comes_before b c ≡ true →
-    comes_before a c ≡ true
-before_trans [] [] c h k = cc
-before_trans [] (y ∷ b) [] h k = cc
-before_trans [] (y ∷ b) (z ∷ c) h k = refl
-before_trans (x ∷ a) [] c h k = cc
-before_trans (x ∷ a) (y ∷ b) [] h k = cc
-before_trans (x ∷ a) (y ∷ b) (z ∷ c) h k = before_step x y z _ _ _ (before_trans a b c) h k
-
--- one number of two different keys
-either_step : (x y : ℕ) (p q : Bool) → (nat_eq x y ≡ true → p ≡ false → q ≡ true) →
-    cond (nat_eq x y) p (nat_lt x y) ≡ false → cond (nat_eq y x) q (nat_lt y x) ≡ true
-either_step x y p q h a = grind (arith, nat_tests)
-
--- of two different keys one comes before the other
-before_other : (a b : List ℕ) → (a ≡ b → ⊥) → comes_before a b ≡ false →
-    comes_before b a ≡ true
-before_other [] [] differ h = absurd (differ refl)
-before_other [] (y ∷ b) differ h = cc
-before_other (x ∷ a) [] differ h = refl
-before_other (x ∷ a) (y ∷ b) differ h =
-    either_step x y _ _ (λ same rest. before_other a b (λ e. differ (let one : x ≡ y =
-    grind (arith, nat_tests) in cc)) rest) h
 
 module _ {Item : Type 0} where
   -- what holds of an item and of all in a list holds of all with the item in its place
@@ -80,13 +49,13 @@ module _ {Item : Type 0} where
           is,
           all_weaker (λ (later : Item). comes_before (key item) (key later) ≡ true)
               (λ (later : Item). comes_before (key new) (key later) ≡ true) items
-              (λ later behind. before_trans (key new) (key item) (key later) is behind) rise.0,
+              (λ later behind. comes_before-trans (key new) (key item) (key later) is behind) rise.0,
         ),
         rise,
       )
       choice false is more = (
         all_put (λ (later : Item). comes_before (key item) (key later) ≡ true) key new items
-            (before_other (key new) (key item) (λ same. apart.0 (sym same)) is) rise.0,
+            (comes_before-other (key new) (key item) (λ same. apart.0 (sym same)) is) rise.0,
         more,
       )
 

@@ -19,8 +19,10 @@ use Rattle.site_model.specs.Sound.{NamesBoth, ArePeople}
 no_user_past : (users : List UserRow) (number : ℕ) → length users < number →
     user_at users number ≡ None
 no_user_past [] number past = refl
-no_user_past (user ∷ users) zero past = let no : ⊥ = omega (arith, past) in absurd no
-no_user_past (user ∷ users) (suc zero) past = let no : ⊥ = omega (arith, past) in absurd no
+no_user_past (user ∷ users) zero past =
+    let no : ⊥ = omega (arith, past) in absurd no
+no_user_past (user ∷ users) (suc zero) past =
+    let no : ⊥ = omega (arith, past) in absurd no
 no_user_past (user ∷ users) (suc (suc number)) past =
     no_user_past users (suc number) (omega (arith, past))
 

@@ -13,7 +13,7 @@ use Rattle.site_model.specs.Desks.{desk_key, is_ended, text_at, with_desk, desks
 use Rattle.site_model.specs.Step.{saved}
 use Rattle.site_model.specs.Parts.{stripe_of, stripe}
 use Rattle.site_model.specs.Sound.{KeysRise}
-use Rattle.site_model.proofs.OrderLemmas.{before_trans}
+use Rattle.page_tree.proofs.OrderLemmas.{comes_before-trans}
 
 module _ {Item : Type 0} where
   -- two tests keep the same in either order
@@ -68,7 +68,7 @@ module _ {Item : Type 0} where
           AllByRecursion (λ (later : Item). comes_before (key new) (key later) ≡ true) xs
       after is = all_weaker (λ (later : Item). comes_before (key x) (key later) ≡ true)
           (λ (later : Item). comes_before (key new) (key later) ≡ true) xs
-          (λ later behind. before_trans (key new) (key x) (key later) is behind) rise.0
+          (λ later behind. comes_before-trans (key new) (key x) (key later) is behind) rise.0
 
       choice : (t : Bool) → comes_before (key new) (key x) ≡ t → (k : Bool) → keep x ≡ k →
           filter keep (put_in key new xs) ≡ put_in key new (filter keep xs) →

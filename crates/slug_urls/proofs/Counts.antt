@@ -14,7 +14,7 @@ use Rattle.page_store.proofs.InsertLemmas.{same_bytes}
 use Rattle.page_store.proofs.PathOrder.{begins-self, begins-BeginsWith}
 use Rattle.page_store.proofs.SeenLemmas.{found_by_own_id}
 use Rattle.tree_rows.proofs.Apart.{Lacks, AreApart, has_page-lacks, lacks_after}
-use Rattle.tree_rows.proofs.Lists.{All-parts, EachPair-parts}
+use Rattle.tree_rows.proofs.Lists.{all_parts, EachPair-parts}
 use Rattle.tree_rows.proofs.SiteTree.{AllIds-rows, apart_tree}
 use Rattle.tree_rows.proofs.SubtreeLemmas.{found_block, rows_begin}
 use Rattle.tree_model.specs.Shape.{SlugsDiffer}
@@ -88,7 +88,7 @@ free_from_rows : (slug : List ℕ) (q : Option ℕ) (path url : List ℕ) (f : F
     (rows_below q path url f) → kid_with_slug slug f ≡ None
 free_from_rows slug q path url bare all = refl
 free_from_rows slug q path url (grown i s own body kids rest) all =
-    let parts = All-parts (λ (row : Page). row.parent ≡ q → row.slug ≡ slug → ⊥)
+    let parts = all_parts (λ (row : Page). row.parent ≡ q → row.slug ≡ slug → ⊥)
     (rows_below (Some i) (path ++ s ∷ []) (child_url url own) kids) (rows_below q path url rest)
     all.1 in
     by (bytes_eq own slug) refl (free_from_rows slug q path url rest parts.1)
@@ -103,7 +103,7 @@ differ_from_rows : (q : Option ℕ) (path url : List ℕ) (f : Forest Body) →
     EachPair HasOtherSlug (rows_below q path url f) → SlugsDiffer f
 differ_from_rows q path url bare others = tt
 differ_from_rows q path url (grown i s own body kids rest) others =
-    let heads = All-parts _ (rows_below (Some i) (path ++ s ∷ []) (child_url url own) kids)
+    let heads = all_parts _ (rows_below (Some i) (path ++ s ∷ []) (child_url url own) kids)
     (rows_below q path url rest) others.0 in
     let parts = EachPair-parts HasOtherSlug
     (rows_below (Some i) (path ++ s ∷ []) (child_url url own) kids) (rows_below q path url rest)
@@ -161,10 +161,10 @@ module _ (tree : Forest Body) (are : ArePages (rows_of tree)) where
           let own = subst (λ rows. AllByRecursion (λ (r : Page). row_with r.id (rows_of tree)
           ≡ Some r) rows)
           b.rows_are (found_by_own_id (rows_of tree) are.own_ids) in
-          let behind = (All-parts (λ (r : Page). row_with r.id (rows_of tree) ≡ Some r) b.front
+          let behind = (all_parts (λ (r : Page). row_with r.id (rows_of tree) ≡ Some r) b.front
           (b.top ∷ (rows_below (Some page) b.top.path b.top.url (kids_of page tree)
           ++ b.behind)) own).1 in
-          let below = (All-parts (λ (r : Page). row_with r.id (rows_of tree) ≡ Some r)
+          let below = (all_parts (λ (r : Page). row_with r.id (rows_of tree) ≡ Some r)
           (rows_below (Some page) b.top.path b.top.url (kids_of page tree)) b.behind behind.1).0 in
           let begin = All-weaker _ (λ (r : Page). begins b.top.path r.path ≡ true)
           (λ (r : Page) on. begins-BeginsWith b.top.path r.path on) _

@@ -115,7 +115,8 @@ pub ends_there : (pages : List Page) (page start : ℕ) (slugs : List ℕ) → s
     page_below pages page (take (length slugs - start) (drop start slugs)) (drop (length slugs) slugs)
     ≡ Some page
 ends_there pages page start slugs is =
-    none_left pages page start slugs (omega arith) ∙ ap (page_reached page) (drop_all start slugs (omega arith))
+    none_left pages page start slugs (omega arith)
+    ∙ ap (page_reached page) (drop_all start slugs (omega arith))
 
 -- and none is where some are
 pub ends_before : (pages : List Page) (page start : ℕ) (slugs : List ℕ) → start < length slugs →
@@ -178,7 +179,8 @@ pub leads_there : (pages : List Page) (slugs : List ℕ) (page start i : ℕ) �
     LeadsOn pages slugs page start i → i ≡ length slugs → start ≡ length slugs → HaveSlugs pages →
     Some page ≡ page_below pages 1 [] slugs
 leads_there pages slugs page start i so_far end is have =
-    sym (so_far.1 have ∙ (ap (λ k. page_below pages page (take (k - start) (drop start slugs)) (drop k slugs)) end
+    sym (so_far.1 have ∙ (ap
+    (λ k. page_below pages page (take (k - start) (drop start slugs)) (drop k slugs)) end
     ∙ ends_there pages page start slugs is))
 
 -- and none where bytes of a slug are left over
@@ -186,7 +188,8 @@ pub leads_nowhere : (pages : List Page) (slugs : List ℕ) (page start i : ℕ) 
     LeadsOn pages slugs page start i → i ≡ length slugs → start < length slugs → HaveSlugs pages →
     None ≡ page_below pages 1 [] slugs
 leads_nowhere pages slugs page start i so_far end more have =
-    sym (so_far.1 have ∙ (ap (λ k. page_below pages page (take (k - start) (drop start slugs)) (drop k slugs)) end
+    sym (so_far.1 have ∙ (ap
+    (λ k. page_below pages page (take (k - start) (drop start slugs)) (drop k slugs)) end
     ∙ ends_before pages page start slugs more))
 
 -- an empty list does not begin with a `/`

@@ -10,29 +10,20 @@ use Rattle.page_tree.specs.Rows.{Row, child_url, rows_below, row_with}
 use Rattle.page_tree.proofs.RowLemmas.{find-append, has_page-rows}
 use Rattle.page_store.proofs.AllLemmas.{All-append}
 use Rattle.tree_rows.proofs.Apart.{kids_of-lacks}
-use Rattle.tree_rows.proofs.Lists.{All-parts}
+use Rattle.tree_rows.proofs.Lists.{all_parts}
 use Rattle.tree_model.proofs.CountLemmas.{one, count, none_or_some, counts_has, none_has, or_bare}
 use Rattle.tree_model.proofs.PlaceLemmas.{has_kid, IsAmong, graft_absent}
 use Rattle.slug_urls.proofs.Counts.{lacks_from_count}
 use Rattle.slug_urls.proofs.Pairs.{differs, HasOwn, pairs_below, none_differ}
+pub use Rattle.tree_model.proofs.ParentLemmas.{no_row, some_row}
 
 module _ {Body : Type 0} where
-  -- the row of a page that stands nowhere is not found
-  pub no_row : (t : ℕ) (q : Option ℕ) (path url : List ℕ) (f : Forest Body) → count t f ≡ 0 →
-      is_some (row_with t (rows_below q path url f)) ≡ false
-  no_row t q path url f none = sym (has_page-rows t q path url f) ∙ none_has t f none
-
-  -- the row of a page that stands somewhere is found
-  pub some_row : (t : ℕ) (q : Option ℕ) (path url : List ℕ) (f : Forest Body) → 1 ≤ count t f →
-      is_some (row_with t (rows_below q path url f)) ≡ true
-  some_row t q path url f some = sym (has_page-rows t q path url f) ∙ counts_has t f some
-
   -- what a cut leaves has what all pages have
   pub All-without : (P : ℕ × List ℕ → Type 0) (j : ℕ) (url : List ℕ) (f : Forest Body) →
       AllByRecursion P (pairs_below url f) → AllByRecursion P (pairs_below url (without j f))
   All-without P j url bare all = tt
   All-without P j url (grown i s own body kids rest) all =
-      let parts = All-parts P (pairs_below (child_url url own) kids) (pairs_below url rest) all.1 in
+      let parts = all_parts P (pairs_below (child_url url own) kids) (pairs_below url rest) all.1 in
       by (nat_eq i j) parts.1 (All-append P (pairs_below (child_url url own) (without j kids))
       (pairs_below url (without j rest)) (All-without P j (child_url url own) kids parts.0)
       (All-without P j url rest parts.1))
@@ -110,7 +101,7 @@ module _ {Body : Type 0} where
           ≡ filter (differs before) (pairs_below url node)
       last_differ url last bare own = placed_differ url (last + 1) bare tt
       last_differ url last (grown i s o b kids rest) own =
-          let parts = All-parts (HasOwn before) (pairs_below (child_url url o) kids) (pairs_below
+          let parts = all_parts (HasOwn before) (pairs_below (child_url url o) kids) (pairs_below
           url rest)
           own.1 in
           skip_front ((i, child_url url o) ∷ pairs_below (child_url url o) kids)
@@ -124,7 +115,7 @@ module _ {Body : Type 0} where
           ≡ filter (differs before) (pairs_below url node)
       before_differ url sibling bare among own = absurd cc
       before_differ url sibling (grown i s o b kids rest) among own =
-          let parts = All-parts (HasOwn before) (pairs_below (child_url url o) kids) (pairs_below
+          let parts = all_parts (HasOwn before) (pairs_below (child_url url o) kids) (pairs_below
           url rest)
           own.1 in
           by (nat_eq i sibling) among
@@ -166,7 +157,7 @@ module _ {Body : Type 0} where
           ≡ filter (differs before) (pairs_below top.url node)
       graft_differs p place q path url bare top once found among own = absurd cc
       graft_differs p place q path url (grown i s o b kids rest) top once found among own =
-          let parts = All-parts (HasOwn before) (pairs_below (child_url url o) kids) (pairs_below
+          let parts = all_parts (HasOwn before) (pairs_below (child_url url o) kids) (pairs_below
           url rest)
           own.1 in
           let both = find-append (λ (row : Row Body). nat_eq row.id p)

@@ -16,6 +16,7 @@ use Rattle.tree_rows.proofs.Lists.{slice_get-drop}
 use Rattle.tree_rows.proofs.SubtreeLemmas.{range_rows}
 use Rattle.slug_urls.specs.Plans.{is_one_long}
 use Rattle.slug_urls.specs.Flat.{moved_from, urls_of_row, row_urls, if_fits, if_all_fit}
+use Rattle.tree_rows.proofs.Lists.{take_one_more}
 
 -- the page at a place, found by its id
 pub record IsAt (pages : List Page) (place id : ℕ) : Type 0 where
@@ -42,13 +43,6 @@ page_at_place pages place id are is = by (slice_get pages place) refl is
           id_is = same;
           found = subst (λ n. row_with n pages ≡ Some row) (sym same) own;
         }
-
--- one element more at the front
-pub take_one_more : {X : Type 0} (xs : List X) (n : ℕ) (x : X) → slice_get xs n ≡ Some x →
-    take (suc n) xs ≡ take n xs ++ x ∷ []
-take_one_more [] n x is = absurd cc
-take_one_more (y ∷ xs) zero x is = let same : y ≡ x = cc in ap (λ z. z ∷ []) same
-take_one_more (y ∷ xs) (suc n) x is = ap (λ ys. y ∷ ys) (take_one_more xs n x is)
 
 -- the pair of one page more
 pairs_more : {Y : Type 0} (f : Page → Y) (pages : List Page) (place done : ℕ) (row : Page) →

@@ -9,7 +9,7 @@ use Rattle.page_tree.specs.Walk.{SLASH}
 use Rattle.page_tree.specs.Rows.{Row, child_url, rows_below}
 use Rattle.page_store.proofs.AllLemmas.{All-append}
 use Rattle.page_store.proofs.InsertLemmas.{same_bytes, bytes_eq-self}
-use Rattle.tree_rows.proofs.Lists.{All-parts, filter_all}
+use Rattle.tree_rows.proofs.Lists.{all_parts, filter_all}
 use Rattle.tree_model.specs.Changes.{url_in, changed_urls}
 
 -- the same bytes behind two texts do not change whether they are equal
@@ -146,7 +146,7 @@ module _ {Body : Type 0} where
       AllByRecursion (λ pair. differs before pair ≡ true) (pairs_below (new ++ more) f)
   all_differ before old new more bare other own = tt
   all_differ before old new more (grown i s slug body kids rest) other own =
-      let parts = All-parts (HasOwn before) (pairs_below (child_url (old ++ more) slug) kids)
+      let parts = all_parts (HasOwn before) (pairs_below (child_url (old ++ more) slug) kids)
       (pairs_below (old ++ more) rest) own.1 in
       let kids_own = subst (λ u. AllByRecursion (HasOwn before) (pairs_below u kids))
       (child_url-append old more slug) parts.0 in

@@ -13,7 +13,7 @@ use Rattle.page_store.specs.Pages.{Page, ArePages}
 use Rattle.page_store.specs.Search.{begins}
 use Rattle.page_store.proofs.AllLemmas.{All-weaker, All-map}
 use Rattle.page_store.proofs.SeenLemmas.{found_by_own_id}
-use Rattle.tree_rows.proofs.Lists.{All-parts}
+use Rattle.tree_rows.proofs.Lists.{all_parts}
 use Rattle.tree_rows.proofs.SubtreeLemmas.{found_block, block_rows}
 use Rattle.tree_model.specs.Changes.{url_in, changed_urls}
 use Rattle.tree_model.specs.Renames.{renamed}
@@ -87,9 +87,9 @@ module _ (tree : Forest Body) (page parent : ℕ) (slug above : List ℕ) (are :
         let all = subst (λ rows. AllByRecursion (λ (r : Page). row_with r.id (rows_of tree)
         ≡ Some r) rows)
         b.rows_are (found_by_own_id (rows_of tree) are.own_ids) in
-        let behind = (All-parts (λ (r : Page). row_with r.id (rows_of tree) ≡ Some r) b.front
+        let behind = (all_parts (λ (r : Page). row_with r.id (rows_of tree) ≡ Some r) b.front
         (b.top ∷ (rows_below (Some page) b.top.path b.top.url kids ++ b.behind)) all).1 in
-        let below = (All-parts (λ (r : Page). row_with r.id (rows_of tree) ≡ Some r)
+        let below = (all_parts (λ (r : Page). row_with r.id (rows_of tree) ≡ Some r)
         (rows_below (Some page) b.top.path b.top.url kids) b.behind behind.1).0 in
         let own = subst (λ pairs. AllByRecursion (HasOwn (rows_of tree)) pairs)
         (pairs_of_rows (Some page) b.top.path b.top.url kids)

@@ -21,6 +21,7 @@ use Rattle.page_store.proofs.SlugLemmas.{kid_passes, others_differ, same_row}
 use Rattle.slug_urls.specs.Urls.{HasUrl, HaveSlugs, page_at}
 use Rattle.slug_urls.specs.Descent.{page_reached, page_below}
 use Rattle.slug_urls.proofs.TreeUrls.{urls_of_tree, own_id, page_above, url_down, url_alone}
+use Rattle.page_store.proofs.WithoutLemmas.{both_true}
 
 -- no byte of a slug is a `/`
 not_slash : (b : ℕ) → is_slug_byte b ≡ true → nat_eq b SLASH ≡ false
@@ -30,12 +31,6 @@ not_slash b allowed = by (nat_eq b SLASH) refl
     by true e = let same : b ≡ 47 = grind (arith, nat_tests) in
         let never : false ≡ true = subst (λ n. is_slug_byte n ≡ true) same allowed in absurd cc
     by false e = e
-
--- the parts of a test of two
-both_true : (t u : Bool) → t && u ≡ true → (t ≡ true) × (u ≡ true)
-both_true true true h = (refl, refl)
-both_true true false h = absurd cc
-both_true false u h = absurd cc
 
 -- bytes of a slug are read one by one
 read_slug : (pages : List Page) (page : ℕ) (seen slug rest : List ℕ) →
@@ -75,7 +70,8 @@ found_first test [] row passes same there = absurd (first_of (cc, search rules))
 found_first test (other ∷ pages) row passes same there =
     by (test other) refl (found_first test pages row passes same.1) there
   where
-    by : (t : Bool) → test other ≡ t → (IsSome (find test pages) → find test pages ≡ Some row) → IsSome (cond t (Some other) (find test pages)) →
+    by : (t : Bool) → test other ≡ t → (IsSome (find test pages) → find test pages ≡ Some row) →
+        IsSome (cond t (Some other) (find test pages)) →
         cond t (Some other) (find test pages) ≡ Some row
     by true e more there = ap Some (same.0 e)
     by false e more there = more there
@@ -87,7 +83,8 @@ finds_some test own pages row found passes = by (find test pages) refl
   where
     by : (o : Option Page) → find test pages ≡ o → IsSome o
     by None e =
-        let none = All-find (λ (r : Page). test r ≡ false) own pages row (all_fail_from_find test pages e) found in
+        let none = All-find (λ (r : Page). test r ≡ false) own pages row
+        (all_fail_from_find test pages e) found in
         absurd cc
     by (Some r) e = search rules
 
@@ -165,10 +162,15 @@ module _ (pages : List Page) (are : ArePages pages) where
             (o : Option ℕ) → row.parent ≡ o →
             (rest : List ℕ) × (row.url ≡ SLASH ∷ rest) × (page_below pages 1 [] rest ≡ Some id)
         by higher None e =
-            let root = at_root pages are.root found e in
-            ([], url_alone pages are id row found urls e ∙ ap (λ s. child_url [] s) root.1, ap Some (sym root.0))
+            let root = at_root pages are.root found e in (
+              [],
+              url_alone pages are id row found urls e
+                  ∙ ap (λ s. child_url [] s) root.1,
+              ap Some (sym root.0),
+            )
           where
-            at_root : (rows : List Page) → StartsAtRoot rows → row_with id rows ≡ Some row → row.parent ≡ None →
+            at_root : (rows : List Page) → StartsAtRoot rows → row_with id rows ≡ Some row →
+                row.parent ≡ None →
                 (id ≡ 1) × (row.slug ≡ [])
             at_root [] root there none = absurd root
             at_root (top ∷ rows) root there none = inner (nat_eq top.id id) refl there
@@ -221,7 +223,8 @@ module _ (pages : List Page) (are : ArePages pages) where
         )
     url_reached page top (s ∷ seen) [] id found h = absurd cc
     url_reached page top seen (b ∷ bytes) id found h =
-        by (nat_eq b SLASH) refl (find (λ (r : Page). is_parent page r.parent && bytes_eq r.slug seen) pages) refl
+        by (nat_eq b SLASH) refl
+        (find (λ (r : Page). is_parent page r.parent && bytes_eq r.slug seen) pages) refl
         (λ p t s n. url_reached p t s bytes n) h
       where
         by : (t : Bool) → nat_eq b SLASH ≡ t → (o : Option Page) →
@@ -229,7 +232,8 @@ module _ (pages : List Page) (are : ArePages pages) where
             ((p : ℕ) (t : Page) (s : List ℕ) (n : ℕ) → row_with p pages ≡ Some t →
             page_below pages p s bytes ≡ Some n →
             (row : Page) × (row_with n pages ≡ Some row) × (row.url ≡ (t.url ++ s) ++ bytes)) →
-            cond t (option_and_then (λ kid. page_below pages kid [] bytes) (option_map (λ (r : Page). r.id) o))
+            cond t (option_and_then (λ kid. page_below pages kid [] bytes)
+            (option_map (λ (r : Page). r.id) o))
             (page_below pages page (seen ++ b ∷ []) bytes) ≡ Some id →
             (row : Page) × (row_with id pages ≡ Some row) × (row.url ≡ (top.url ++ seen) ++ b ∷ bytes)
         by true e None k deeper h = absurd cc
@@ -295,7 +299,8 @@ module _ (pages : List Page) (are : ArePages pages) where
                 let fails = All-find (λ (r : Page). bytes_eq r.url (SLASH ∷ rest) ≡ false)
                 (λ (r : Page). nat_eq r.id id) pages found.0
                 (all_fail_from_find (λ (r : Page). bytes_eq r.url (SLASH ∷ rest)) pages e) found.1 in
-                let passes : bytes_eq found.0.url (SLASH ∷ rest) ≡ true = rw url_is (bytes_eq-self (SLASH ∷ rest)) in
+                let passes : bytes_eq found.0.url (SLASH ∷ rest)
+                ≡ true = rw url_is (bytes_eq-self (SLASH ∷ rest)) in
                 absurd cc
 
     -- no page has a URL that does not begin with `/`
@@ -306,7 +311,8 @@ module _ (pages : List Page) (are : ArePages pages) where
             option_map (λ (r : Page). r.id) o ≡ None
         by None e = refl
         by (Some row) e =
-            let url_is = same_bytes row.url url (found_passes (λ (r : Page). bytes_eq r.url url) pages row e) in
+            let url_is = same_bytes row.url url
+            (found_passes (λ (r : Page). bytes_eq r.url url) pages row e) in
             let own = All-find (λ (r : Page). row_with r.id pages ≡ Some r)
             (λ (r : Page). bytes_eq r.url url) pages row (found_by_own_id pages are.own_ids) e in
             let down = reached (length row.path) row.id row own refl in

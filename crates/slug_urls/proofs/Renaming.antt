@@ -7,7 +7,7 @@ use Rattle.page_tree.specs.Tree.{Forest, bare, grown, node_of, or_else}
 use Rattle.page_tree.specs.Walk.{kid_count}
 use Rattle.page_tree.specs.Rows.{Row, child_url, rows_below, row_with}
 use Rattle.page_tree.proofs.RowLemmas.{find-append}
-use Rattle.tree_rows.proofs.Lists.{All-parts}
+use Rattle.tree_rows.proofs.Lists.{all_parts}
 use Rattle.tree_model.specs.Changes.{url_in}
 use Rattle.tree_model.specs.Renames.{renamed}
 use Rattle.tree_model.proofs.CountLemmas.{one, count, none_or_some, not_first, node_absent, or_bare}
@@ -40,7 +40,7 @@ module _ {Body : Type 0} where
         (pairs_below (url_up before top.parent) (renamed j slug (node_of j f)))
     renamed_differs q path url bare top once found up own = absurd cc
     renamed_differs q path url (grown i s o b kids rest) top once found up own =
-        let parts = All-parts (HasOwn before) (pairs_below (child_url url o) kids) (pairs_below url
+        let parts = all_parts (HasOwn before) (pairs_below (child_url url o) kids) (pairs_below url
         rest)
         own.1 in
         let both = find-append (λ (row : Row Body). nat_eq row.id j)

@@ -16,12 +16,7 @@ use Rattle.page_store.proofs.SeenLemmas.{found_by_own_id, All-find}
 use Rattle.page_store.proofs.KeptLemmas.{found_passes}
 use Rattle.page_store.proofs.WindowLemmas.{last_step_of}
 use Rattle.slug_urls.specs.Urls.{url_above, HasUrl}
-
--- what holds of each element of two lists holds of each of either
-pub All-parts : {X : Type 0} (P : X → Type 0) (xs ys : List X) → AllByRecursion P (xs ++ ys) →
-    AllByRecursion P xs × AllByRecursion P ys
-All-parts P [] ys all = (tt, all)
-All-parts P (x ∷ xs) ys all = let more = All-parts P xs ys all.1 in ((all.0, more.0), more.1)
+pub use Rattle.page_tree.proofs.ListLemmas.{all_parts}
 
 -- the rows below a page have their URLs, where each row is found by its id
 urls_below : (pages : List Page) (parent : Option ℕ) (path url : List ℕ) (forest : Forest Body) →
@@ -30,7 +25,7 @@ urls_below : (pages : List Page) (parent : Option ℕ) (path url : List ℕ) (fo
     AllByRecursion (HasUrl pages) (rows_below parent path url forest)
 urls_below pages parent path url bare up own = tt
 urls_below pages parent path url (grown i step slug body kids rest) up own =
-    let parts = All-parts (λ (row : Page). row_with row.id pages ≡ Some row)
+    let parts = all_parts (λ (row : Page). row_with row.id pages ≡ Some row)
     (rows_below (Some i) (path ++ step ∷ []) (child_url url slug) kids)
     (rows_below parent path url rest) own.1 in (
       ap (λ u. child_url u slug) (sym up),
@@ -68,7 +63,8 @@ module _ (pages : List Page) (are : ArePages pages) (id : ℕ) (row : Page)
   page_above p is =
       let parent = All-find (λ (r : Page). r.parent ≡ parent_id r.path pages)
       (λ (r : Page). nat_eq r.id id) pages row are.parents found in
-      let path = All-find (λ (r : Page). IsPath r.path) (λ (r : Page). nat_eq r.id id) pages row are.paths found in
+      let path = All-find (λ (r : Page). IsPath r.path) (λ (r : Page). nat_eq r.id id) pages row
+      are.paths found in
       by path.some (find (λ (r : Page). bytes_eq r.path (above row.path)) pages) refl (sym parent ∙ is)
     where
       by : 0 < length row.path → (o : Option Page) →

@@ -29,7 +29,8 @@ module _ (pages : List Page) (are : ArePages pages) (id : ℕ) where
       IsUp pages id p
   parent_is_up p is = by (row_with id pages) refl is
     where
-      by : (o : Option Page) → row_with id pages ≡ o → Some p ≡ option_and_then (λ (row : Page). row.parent) o →
+      by : (o : Option Page) → row_with id pages ≡ o → Some p
+          ≡ option_and_then (λ (row : Page). row.parent) o →
           IsUp pages id p
       by None e h = absurd cc
       by (Some row) e h =
@@ -59,7 +60,8 @@ module _ (pages : List Page) (are : ArePages pages) (id : ℕ) where
         by None e h = refl
         by (Some row) e h =
             let up = page_above pages are id row e p (sym h) in
-            let down = url_down pages are id row e (urls_of_tree pages tree are is_tree) p (sym h) up.top up.found in
+            let down = url_down pages are id row e (urls_of_tree pages tree are is_tree) p
+            (sym h) up.top up.found in
             let both : Some above ≡ Some up.top.url =
             url_is ∙ ap (option_map (λ (r : Page). r.url)) up.found in
             let same : above ≡ up.top.url = cc in

@@ -9,5 +9,5 @@ mod upward;
 
 pub use downward::walk;
 pub use fault::UrlFault;
-pub use plan::{find_taken, plan_urls};
+pub use plan::{MAX_URL_BYTES, find_taken, plan_urls};
 pub use upward::url_of;

@@ -17,7 +17,7 @@ use site_types::{NoMemory, PageId, Slug, Url};
 use std::alloc::Global;
 
 /// The greatest length of a URL in bytes.
-const MAX_URL_BYTES: usize = 8_192;
+pub const MAX_URL_BYTES: usize = 8_192;
 
 /// The pages whose URL changes where the page goes below `parent` with `slug`, depth first, each
 /// with its new URL; a page that is not there yet has its own alone.

@@ -12,7 +12,7 @@ either true o = refl
 either false o = refl
 
 -- two numbers that equal a third equal each other
-eq_joined : (a b c : ℕ) → nat_eq a b ≡ true → nat_eq b c ≡ true → nat_eq a c ≡ true
+pub eq_joined : (a b c : ℕ) → nat_eq a b ≡ true → nat_eq b c ≡ true → nat_eq a c ≡ true
 eq_joined a b c h k =
     let first = eq_means a b h in
     let second = eq_means b c k in
@@ -245,7 +245,8 @@ taken_at_place page at (entry ∷ entries) table is =
         let same = eq_means entry.1 page own in
         let late : is_earlier entry (at, page) ≡ false =
         earlier_self entry.0 at entry.1 page moment same in
-        subst (IsTaken page at entry entries true) (sym late) (omega arith, sym (none_taken page entry entries own table.0))
+        subst (IsTaken page at entry entries true) (sym late)
+        (omega arith, sym (none_taken page entry entries own table.0))
     by false own found more =
         let first = all_found (ComesFirst entry) page at entries table.0 found in
         let rest = more found in

@@ -141,15 +141,18 @@ pub create_desk : (parent : ℕ) (slug : List ℕ) (content : ContentValue) →
 unfolding desk_page
 create_desk parent slug content = refl
 
+-- a move looks at no desk
 pub move_desk : (page target : ℕ) (position : Position) →
     desk_page (Move page target position) ≡ None
 unfolding desk_page
 move_desk page target position = refl
 
+-- a deletion looks at no desk
 pub delete_desk : (page : ℕ) → desk_page (Delete page) ≡ None
 unfolding desk_page
 delete_desk page = refl
 
+-- another slug looks at no desk
 pub slug_desk : (page : ℕ) (slug : List ℕ) → desk_page (SetSlug page slug) ≡ None
 unfolding desk_page
 slug_desk page slug = refl

@@ -31,7 +31,7 @@ use Rattle.tree_rows.specs.Cuts.{end_of}
 use Rattle.path_moves.specs.Laws.{IsTree}
 use Rattle.path_moves.proofs.ApplySlugs.{found_id}
 use Rattle.path_moves.proofs.LawLemmas.{graft_is}
-use Rattle.tree_rows.proofs.Lists.{EachPair-parts, All-parts}
+use Rattle.tree_rows.proofs.Lists.{EachPair-parts, all_parts}
 use Rattle.path_moves.proofs.TreePages.{rows_in_order, rows_paths}
 use Rattle.slug_urls.specs.Flat.{other_kid}
 use Rattle.slug_urls.proofs.Taken.{taken_is}
@@ -226,7 +226,7 @@ module _ (tree : Forest Body) (are : ArePages (rows_of tree)) (is_tree : IsTree 
   is_path =
       let all = rows_paths None [] [] 0 (with_page tree page parent slug body) tt late within
       (omega (arith, deep)) in
-      let parts = All-parts (λ (row : Page). IsPath row.path) front (new ∷ behind)
+      let parts = all_parts (λ (row : Page). IsPath row.path) front (new ∷ behind)
       (subst (AllByRecursion (λ (row : Page). IsPath row.path)) rows_after all) in
       subst IsPath (sym path_is) parts.1.0
 

@@ -85,9 +85,11 @@ module _ (tree : Forest Body) (distinct : HasDistinctIds tree) (page : ℕ) (new
         some,
         same,
       )))
-      later (found_by_own_id later (own_ids_of (renamed page new tree) (distinct-renamed tree distinct page new)))
+      later (found_by_own_id later
+      (own_ids_of (renamed page new tree) (distinct-renamed tree distinct page new)))
 
   -- the URLs that change are those of pages that were there
   pub slug_listed : AreListed before (changed_urls before later)
   slug_listed =
-      changed_listed before later (own_ids_of (renamed page new tree) (distinct-renamed tree distinct page new)) all_there
+      changed_listed before later
+      (own_ids_of (renamed page new tree) (distinct-renamed tree distinct page new)) all_there

@@ -13,15 +13,13 @@ ghost use Rattle.tree_edits.specs.Making.{IdsGiven, page_rules, IsNewPage, fresh
 use crate::place::{NewPlace, plan_place};
 use crate::telling::{later, text_of};
 use grants::{Change, Fault, Plan, TreeChange, TreePart};
+use revision_shelf::MAX_CONTENT_SUM;
 use site_types::{
     Body, Content, Items, Moment, NoMemory, PageId, PageRow, Refusal, Reply, Revision, RevisionId,
     Slug, UserId,
 };
 use std::alloc::Global;
 use step_path::Path;
-
-/// The most bytes that the forms of all contents may have together.
-const MAX_CONTENT_SUM: u64 = 1_073_741_824;
 
 /// A page that may be made.
 #[derive(Drop)]

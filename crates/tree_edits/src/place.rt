@@ -17,12 +17,9 @@ use grants::Fault;
 use page_store::Rows;
 use path_moves::{PathFault, plan_append};
 use site_types::{NoMemory, PageId, Slug, Url};
-use slug_urls::UrlFault;
+use slug_urls::{MAX_URL_BYTES, UrlFault};
 use std::alloc::Global;
 use step_path::Path;
-
-/// The greatest length of a URL in bytes.
-const MAX_URL_BYTES: usize = 8_192;
 
 /// The path and the URL of a new page.
 #[derive(Drop)]

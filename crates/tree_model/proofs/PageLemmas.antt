@@ -4,12 +4,7 @@ use Rattle.std.specs.List.{AllByRecursion}
 use Rattle.page_tree.specs.Tree.{Forest, bare, grown, Place, First, Before, End, or_else, node_of, without, raised, placed, put_last, put_before, put, graft}
 use Rattle.tree_model.specs.Shape.{AllPages}
 use Rattle.tree_model.proofs.CountLemmas.{same_id, count, either}
-
--- what follows for each element
-pub all_weaker : {X : Type 0} (P Q : X → Type 0) (xs : List X) → ((x : X) → P x → Q x) →
-    AllByRecursion P xs → AllByRecursion Q xs
-all_weaker P Q [] weaker all = tt
-all_weaker P Q (x ∷ xs) weaker all = (weaker x all.0, all_weaker P Q xs weaker all.1)
+pub use Rattle.page_tree.proofs.ListLemmas.{all_weaker}
 
 module _ {Body : Type 0} where
   -- of the first of two

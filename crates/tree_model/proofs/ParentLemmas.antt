@@ -46,12 +46,12 @@ module _ {Body : Type 0} where
   parent_told found = unwrap_or (option_and_then (λ (row : Row Body). row.parent) found) 0
 
   -- the row of a page that stands nowhere is not found
-  no_row : (t : ℕ) (q : Option ℕ) (path url : List ℕ) (f : Forest Body) → count t f ≡ 0 →
+  pub no_row : (t : ℕ) (q : Option ℕ) (path url : List ℕ) (f : Forest Body) → count t f ≡ 0 →
       is_some (row_with t (rows_below q path url f)) ≡ false
   no_row t q path url f none = sym (has_page-rows t q path url f) ∙ none_has t f none
 
   -- the row of a page that stands somewhere is found
-  some_row : (t : ℕ) (q : Option ℕ) (path url : List ℕ) (f : Forest Body) → 1 ≤ count t f →
+  pub some_row : (t : ℕ) (q : Option ℕ) (path url : List ℕ) (f : Forest Body) → 1 ≤ count t f →
       is_some (row_with t (rows_below q path url f)) ≡ true
   some_row t q path url f some = sym (has_page-rows t q path url f) ∙ counts_has t f some
 

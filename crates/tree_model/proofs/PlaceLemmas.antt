@@ -1,6 +1,8 @@
 -- Where a graft puts a page, and what it does to how often an id stands in the tree.
-use Rattle.std.proofs.Common.{◌≡◌, ◌+◌, ◌≤◌, inl, inr, ℕ, Bool, true, false, cond, List, nat_eq, ◌||◌, refl, arith}
-use Rattle.page_tree.specs.Tree.{Forest, bare, grown, Place, First, Before, End, or_else, kids_of, raised, placed, put_last, put_before, put, graft}
+use Rattle.std.proofs.Common.{◌≡◌, ◌+◌, ◌≤◌, inl, inr, ℕ, Bool, true, false, cond, List, nat_eq, nat_lt, ◌||◌, refl, arith}
+use Rattle.page_tree.specs.Tree.{Forest, bare, grown, Place, First, Before, End, or_else, kids_of, last_step, raised, placed, put_last, put_before, put, graft}
+use Rattle.step_path.specs.declared.step.TheConstants.{LAST_STEP}
+use Rattle.tree_model.specs.Limits.{is_full}
 use Rattle.tree_model.proofs.CountLemmas.{one, count, none_or_some, not_first, or_bare}
 
 -- a test does not hold and fail
@@ -18,6 +20,13 @@ module _ {Body : Type 0} where
   IsAmong First f = Unit {0}
   IsAmong (Before sibling) f = has_kid sibling f ≡ true
   IsAmong End f = Unit {0}
+
+  -- a place is full where the step after the last one is past the last that there is
+  pub full_told : (tree : Forest Body) (parent : ℕ) (place : Place) →
+      is_full tree parent place ≡ nat_lt LAST_STEP (last_step 0 (kids_of parent tree) + 1)
+  full_told tree parent First = refl
+  full_told tree parent (Before sibling) = refl
+  full_told tree parent End = refl
 
   -- the children of each page with the id have Q
   abbrev pub AtParent : ℕ → (Forest Body → Type 0) → Forest Body → Type 0

@@ -9,6 +9,7 @@ use Rattle.page_tree.proofs.RootLemmas.{le-last_step}
 use Rattle.tree_model.specs.Shape.{AreWithin, SlugsDiffer}
 use Rattle.tree_model.proofs.CountLemmas.{either}
 use Rattle.tree_model.proofs.PlaceLemmas.{AtParent, not_both}
+pub use Rattle.page_tree.proofs.ListLemmas.{all_append, all_parts}
 
 -- texts that differ one way round differ the other way round
 pub other_text : (a b : List ℕ) → bytes_eq a b ≡ false → bytes_eq b a ≡ false
@@ -25,18 +26,6 @@ pub later_free : {X : Type 0} (t : Bool) (x : X) (later : Option X) →
     cond t (Some x) later ≡ None → (t ≡ false) × (later ≡ None)
 later_free true x later none = absurd (cc)
 later_free false x later none = (refl, none)
-
--- what holds of each of two lists holds of each of both together
-pub all_append : {X : Type 0} (P : X → Type 0) (xs ys : List X) → AllByRecursion P xs →
-    AllByRecursion P ys → AllByRecursion P (xs ++ ys)
-all_append P [] ys p q = q
-all_append P (x ∷ xs) ys p q = (p.0, all_append P xs ys p.1 q)
-
--- what holds of each of two lists together holds of each of either
-pub all_parts : {X : Type 0} (P : X → Type 0) (xs ys : List X) → AllByRecursion P (xs ++ ys) →
-    AllByRecursion P xs × AllByRecursion P ys
-all_parts P [] ys p = (tt, p)
-all_parts P (x ∷ xs) ys p = let more = all_parts P xs ys p.1 in ((p.0, more.0), more.1)
 
 module _ {Body : Type 0} where
   -- what rises from above a number rises from above a lower one

@@ -6,47 +6,10 @@ use Rattle.page_tree.specs.Tree.{Forest, bare, grown, Place, AllIds, has_page, n
 use Rattle.page_tree.specs.Rows.{Row, rows_below, child_url}
 use Rattle.page_tree.proofs.RowLemmas.{AllIds-weaker, AllIds-ids_of}
 use Rattle.page_store.proofs.AllLemmas.{All-append, All-weaker, All-both, All-always}
-use Rattle.tree_rows.proofs.Lists.{All-parts}
-
--- each page's id is another than this
-abbrev pub Lacks : {Body : Type 0} → ℕ → Forest Body → Type 0
-Lacks id f = AllIds (λ i. i ≡ id → ⊥) f
-
--- numbers that a test tells apart are not equal
-apart_by_test : (x y : ℕ) → nat_eq x y ≡ false → y ≡ x → ⊥
-apart_by_test x y differ e = grind (arith, nat_tests)
-
--- Two lists whose numbers are distinct together.
-record AreDistinctParts (xs ys : List ℕ) : Type 0 where
-  pub front : IsDistinct nat_eq xs
-  pub back : IsDistinct nat_eq ys
-  pub apart : AllByRecursion (λ y. AllByRecursion (λ x. x ≡ y → ⊥) xs) ys
-
--- each part of a list of distinct numbers is distinct, and apart from the other
-distinct_parts : (xs ys : List ℕ) → IsDistinct nat_eq (xs ++ ys) → AreDistinctParts xs ys
-unfolding IsDistinct
-distinct_parts [] ys distinct =
-    record { front = tt; back = distinct; apart = All-always (λ (y : ℕ). Unit {0}) (λ y. tt) ys }
-distinct_parts (x ∷ xs) ys distinct =
-    let heads = All-parts (λ y. nat_eq x y ≡ false) xs ys distinct.0 in
-    let more = distinct_parts xs ys distinct.1 in
-    record {
-      front = (heads.0, more.front);
-      back = more.back;
-      apart = All-both (λ y. nat_eq x y ≡ false) (λ y. AllByRecursion (λ z. z ≡ y → ⊥) xs)
-          (λ y. AllByRecursion (λ z. z ≡ y → ⊥) (x ∷ xs))
-          (λ y t rest. ((λ e. apart_by_test x y t (sym e)), rest)) ys heads.1 more.apart;
-    }
+pub use Rattle.page_tree.proofs.ApartLemmas.{Lacks, AreApart, AreApart-distinct, rows_ids}
+pub use Rattle.tree_model.proofs.SiblingLemmas.{AreRising-without}
 
 module _ {Body : Type 0} where
-  -- no id stands twice, told page by page
-  abbrev pub AreApart : Forest Body → Type 0
-  AreApart bare = Unit {0}
-  AreApart (grown i step slug body kids rest) =
-      (Lacks i kids × Lacks i rest × AllIds (λ j. Lacks j kids) rest)
-      × AreApart kids
-      × AreApart rest
-
   -- a page that is not there is not found
   pub has_page-lacks : (id : ℕ) (f : Forest Body) → Lacks id f → has_page id f ≡ false
   has_page-lacks id bare lacks = refl
@@ -139,17 +102,6 @@ module _ {Body : Type 0} where
         (rows_parents P parent path url rest one all.2),
   )
 
-  -- what holds of each page's id holds of each row's
-  pub rows_ids : (P : ℕ → Type 0) (parent : Option ℕ) (path url : List ℕ) (f : Forest Body) →
-      AllIds P f → AllByRecursion (λ (row : Row Body). P row.id) (rows_below parent path url f)
-  rows_ids P parent path url bare all = tt
-  rows_ids P parent path url (grown i s slug body kids rest) all = (
-    all.0,
-    All-append _ _ _
-        (rows_ids P (Some i) (path ++ s ∷ []) (child_url url slug) kids all.1)
-        (rows_ids P parent path url rest all.2),
-  )
-
   -- what holds of each page holds of each that is left after a cut
   pub AllIds-without : (P : ℕ → Type 0) (id : ℕ) (f : Forest Body) → AllIds P f →
       AllIds P (without id f)
@@ -188,46 +140,3 @@ module _ {Body : Type 0} where
           AreApart (cond t rest (grown i s slug body (without id kids) (without id rest)))
       either true cut kept = cut
       either false cut kept = kept
-
-  -- steps that rise from above one number rise from above each lower one
-  AreRising-lower : (low before : ℕ) (f : Forest Body) → low ≤ before → AreRising before f →
-      AreRising low f
-  AreRising-lower low before bare lower rising = tt
-  AreRising-lower low before (grown i s slug body kids rest) lower rising =
-      let first = rising.0 in (omega arith, rising.1, rising.2)
-
-  -- steps go on rising after a cut
-  pub AreRising-without : (id before : ℕ) (f : Forest Body) → AreRising before f →
-      AreRising before (without id f)
-  AreRising-without id before bare rising = tt
-  AreRising-without id before (grown i s slug body kids rest) rising =
-      let first = rising.0 in
-      either (nat_eq i id) (AreRising-lower before s rest (omega arith) rising.2)
-      (rising.0, AreRising-without id 0 kids rising.1, AreRising-without id s rest rising.2)
-    where
-      either : (t : Bool) → AreRising before rest →
-          AreRising before (grown i s slug body (without id kids) (without id rest)) →
-          AreRising before (cond t rest (grown i s slug body (without id kids) (without id rest)))
-      either true cut kept = cut
-      either false cut kept = kept
-
-  -- distinct ids are apart, page by page
-  pub AreApart-distinct : (f : Forest Body) → HasDistinctIds f → AreApart f
-  unfolding IsDistinct
-  AreApart-distinct bare distinct = tt
-  AreApart-distinct (grown i s slug body kids rest) distinct =
-      let others = All-weaker (λ j. nat_eq i j ≡ false) (λ j. j ≡ i →
-      ⊥) (apart_by_test i) (ids_of kids ++ ids_of rest) distinct.0 in
-      let sides = All-parts (λ j. j ≡ i → ⊥) (ids_of kids) (ids_of rest) others in
-      let parts = distinct_parts (ids_of kids) (ids_of rest) distinct.1 in
-      let between = All-weaker (λ j. AllByRecursion (λ k. k ≡ j → ⊥) (ids_of kids))
-      (λ j. Lacks j kids)
-      (λ j all. AllIds-ids_of (λ k. k ≡ j → ⊥) kids all) (ids_of rest) parts.apart in (
-        (
-          AllIds-ids_of (λ j. j ≡ i → ⊥) kids sides.0,
-          AllIds-ids_of (λ j. j ≡ i → ⊥) rest sides.1,
-          AllIds-ids_of (λ j. Lacks j kids) rest between,
-        ),
-        AreApart-distinct kids parts.front,
-        AreApart-distinct rest parts.back,
-      )

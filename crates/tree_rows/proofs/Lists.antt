@@ -7,12 +7,7 @@ use Rattle.std.proofs.lemmas.List.Elements.{filter-append}
 use Rattle.page_store.specs.Pages.{Page, EachPair}
 use Rattle.page_store.proofs.AllLemmas.{All-weaker}
 use Rattle.tree_rows.specs.Subtree.{last_of}
-
--- what holds of each element of two lists holds of each of either
-pub All-parts : {X : Type 0} (P : X → Type 0) (xs ys : List X) → AllByRecursion P (xs ++ ys) →
-    AllByRecursion P xs × AllByRecursion P ys
-All-parts P [] ys all = (tt, all)
-All-parts P (x ∷ xs) ys all = let more = All-parts P xs ys all.1 in ((all.0, more.0), more.1)
+pub use Rattle.page_tree.proofs.ListLemmas.{all_parts}
 
 -- what holds between each of these and each of those holds between each of those and each of these
 pub All-turned : {X Y : Type 0} (R : X → Y → Type 0) (xs : List X) (ys : List Y) →
@@ -31,7 +26,7 @@ pub EachPair-parts : (R : Page → Page → Type 0) (xs ys : List Page) → Each
     EachPair R xs × EachPair R ys × AllByRecursion (λ x. AllByRecursion (R x) ys) xs
 EachPair-parts R [] ys pairs = (tt, pairs, tt)
 EachPair-parts R (x ∷ xs) ys pairs =
-    let heads = All-parts (R x) xs ys pairs.0 in
+    let heads = all_parts (R x) xs ys pairs.0 in
     let more = EachPair-parts R xs ys pairs.1 in
     ((heads.0, more.0), more.1, (heads.1, more.2))
 
@@ -79,7 +74,8 @@ pub slice_get-drop : {X : Type 0} (xs : List X) (place j k : ℕ) → k ≡ plac
     slice_get (drop place xs) j ≡ slice_get xs k
 slice_get-drop [] zero j k is = refl
 slice_get-drop [] (suc place) j k is = refl
-slice_get-drop (x ∷ xs) zero j k is = let same : j ≡ k = omega arith in ap (slice_get (x ∷ xs)) same
+slice_get-drop (x ∷ xs) zero j k is =
+    let same : j ≡ k = omega arith in ap (slice_get (x ∷ xs)) same
 slice_get-drop (x ∷ xs) (suc place) j zero is = absurd (omega arith)
 slice_get-drop (x ∷ xs) (suc place) j (suc k) is = slice_get-drop xs place j k (omega arith)
 
@@ -115,3 +111,11 @@ last_of-push front x =
     let long = length-append front (x ∷ []) in
     let last : length (front ++ x ∷ []) - 1 ≡ length front = omega arith in
     ap (slice_get (front ++ x ∷ [])) last ∙ slice_get-append front [] x
+
+-- one element more at the front
+pub take_one_more : {X : Type 0} (xs : List X) (n : ℕ) (x : X) → slice_get xs n ≡ Some x →
+    take (suc n) xs ≡ take n xs ++ x ∷ []
+take_one_more [] n x is = absurd cc
+take_one_more (y ∷ xs) zero x is =
+    let same : y ≡ x = cc in ap (λ z. z ∷ []) same
+take_one_more (y ∷ xs) (suc n) x is = ap (λ ys. y ∷ ys) (take_one_more xs n x is)

@@ -12,7 +12,7 @@ use Rattle.page_store.specs.Pages.{Page, EachPair, IsBefore, HasOtherId, ArePage
 use Rattle.page_store.proofs.AllLemmas.{All-weaker}
 use Rattle.page_store.proofs.WindowLemmas.{comes_before-behind}
 use Rattle.tree_rows.proofs.Apart.{Lacks, AreApart}
-use Rattle.tree_rows.proofs.Lists.{All-parts, All-turned, EachPair-parts}
+use Rattle.tree_rows.proofs.Lists.{all_parts, All-turned, EachPair-parts}
 
 -- the step of the first of these, where there is one, is above this number
 abbrev pub StartsAfter : {Body : Type 0} → ℕ → Forest Body → Type 0
@@ -25,7 +25,7 @@ pub AllIds-rows : {Body : Type 0} (P : ℕ → Type 0) (parent : Option ℕ) (pa
     AllByRecursion (λ (row : Row Body). P row.id) (rows_below parent path url f) → AllIds P f
 AllIds-rows P parent path url bare all = tt
 AllIds-rows P parent path url (grown i s slug body kids rest) all =
-    let parts = All-parts _ _ _ all.1 in (
+    let parts = all_parts _ _ _ all.1 in (
       all.0,
       AllIds-rows P (Some i) (path ++ s ∷ []) (child_url url slug) kids parts.0,
       AllIds-rows P parent path url rest parts.1,
@@ -36,7 +36,7 @@ pub apart_from_rows : (parent : Option ℕ) (path url : List ℕ) (f : Forest Bo
     EachPair HasOtherId (rows_below parent path url f) → AreApart f
 apart_from_rows parent path url bare others = tt
 apart_from_rows parent path url (grown i s slug body kids rest) others =
-    let heads = All-parts _ _ _ others.0 in
+    let heads = all_parts _ _ _ others.0 in
     let parts = EachPair-parts HasOtherId _ _ others.1 in
     let turned = All-turned HasOtherId _ _ parts.2 in
     let between = All-weaker _ (λ (row : Page). Lacks row.id kids)
@@ -84,9 +84,9 @@ pub rising_from_rows : (parent : Option ℕ) (path url : List ℕ) (before : ℕ
     StartsAfter before f → AreRising before f
 rising_from_rows parent path url before bare order paths start = tt
 rising_from_rows parent path url before (grown i s slug body kids rest) order paths start =
-    let heads = All-parts _ _ _ order.0 in
+    let heads = all_parts _ _ _ order.0 in
     let parts = EachPair-parts IsBefore _ _ order.1 in
-    let both = All-parts _ _ _ paths.1 in
+    let both = all_parts _ _ _ paths.1 in
     let head : Page = record {
       id = i;
       parent = parent;

@@ -19,7 +19,7 @@ use Rattle.page_store.proofs.RangeLemmas.{All-at, drop_at_place}
 use Rattle.page_store.proofs.SeenLemmas.{found_by_own_id}
 use Rattle.tree_rows.specs.Subtree.{last_of, subtree_rows, step_after}
 use Rattle.tree_rows.proofs.Block.{Block, block_of}
-use Rattle.tree_rows.proofs.Lists.{All-parts, filter_middle, filter_window, slice_get-window, length-window, slice_get-append, last_of-push}
+use Rattle.tree_rows.proofs.Lists.{all_parts, filter_middle, filter_window, slice_get-window, length-window, slice_get-append, last_of-push}
 use Rattle.tree_rows.proofs.SiteTree.{rising_tree, apart_tree}
 
 -- a test that would lead to nothing fails
@@ -134,7 +134,7 @@ found_block tree id row are found =
     let all = subst (λ rows. AllByRecursion (λ (other : Page). row_with other.id (rows_of tree)
     ≡ Some other) rows)
     b.rows_are (found_by_own_id (rows_of tree) are.own_ids) in
-    let parts = All-parts (λ (other : Page). row_with other.id (rows_of tree) ≡ Some other) b.front
+    let parts = all_parts (λ (other : Page). row_with other.id (rows_of tree) ≡ Some other) b.front
     (b.top ∷ (rows_below (Some id) b.top.path b.top.url (kids_of id tree) ++ b.behind)) all in
     let own = parts.1.0 in
     let one : row_with id (rows_of tree)

@@ -1,4 +1,5 @@
-//! Laws of transcripts and of what requests ask for. Each is a function that does nothing: its contract is the law.
+//! Laws of transcripts and of what requests ask for. Each is a function that does nothing: its
+//! contract is the law.
 ghost use Rattle.wire_model.specs.Laws.{TranscriptStays, TranscriptKeepsLegal, LongerBeginsWithShorter, OneTranscript, NothingAskedIsLast, ClosingIsLast, RoutesAreBuilt, RoutesFit, TimesAreTexts};
 
 /// A transcript stays one when more bytes follow.

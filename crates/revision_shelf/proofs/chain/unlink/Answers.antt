@@ -47,7 +47,8 @@ set_newest-requires c =
 pub returns-clause-chained : goal.returns-clause-chained
 returns-clause-chained c = λ revisions kept own before.
     let last = last_of c.args.page c.args.id c.args.after revisions c.in-None.is before in
-    rw (← goes_with c.args.page c.args.id revisions last, c.form_length-weighs.ensures.value) (take_one _ _ _ _ _
+    rw (← goes_with c.args.page c.args.id revisions last, c.form_length-weighs.ensures.value)
+    (take_one _ _ _ _ _
     c.args.page c.args.id c.in-Some.kept (kept.last c.args.page ∙ last) (sym
     c.swap_remove.ensures.value ∙ c.in-Some.is) c.swap_remove.ensures.updates.0
     c.set_newest.ensures.pages revisions kept)

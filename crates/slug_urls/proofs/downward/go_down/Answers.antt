@@ -17,7 +17,8 @@ loop-i-preserved c =
     elim c.if-slugs-i-eq47.branch [
       | then-slugs-i-eq47+in_ok-page w ↦ slash_leads_on c.args.rows.now.pages c.args.slugs.now
           c.loop-i.page c.loop-i.start c.loop-i.i _ c.if-slugs-i-eq47.page c.if-slugs-i-eq47.start
-          c.loop-i.invariant c.loop-i-test.true w.if-slugs-i-eq47.true w.in_ok-page.ensures w.page-is w.start-is
+          c.loop-i.invariant c.loop-i-test.true w.if-slugs-i-eq47.true w.in_ok-page.ensures
+          w.page-is w.start-is
       | else-slugs-i-eq47 w ↦ byte_leads_on c.args.rows.now.pages c.args.slugs.now
           c.loop-i.page c.loop-i.start c.loop-i.i c.if-slugs-i-eq47.page c.if-slugs-i-eq47.start
           c.loop-i.invariant c.loop-i-test.true w.if-slugs-i-eq47.false w.page-is w.start-is
@@ -26,7 +27,8 @@ loop-i-preserved c =
 pub returns-in_err-page : goal.returns-in_err-page
 returns-in_err-page c slugs =
     let none = slash_leads_nowhere c.args.rows.now.pages c.args.slugs.now c.loop-i.page c.loop-i.start
-    c.loop-i.i c.loop-i.invariant c.loop-i-test.true c.if-slugs-i-eq47.true slugs (c.in_err-page.ensures slugs) in
+    c.loop-i.i c.loop-i.invariant c.loop-i-test.true c.if-slugs-i-eq47.true slugs
+    (c.in_err-page.ensures slugs) in
     cc
 
 pub returns-then-start-slugs : goal.returns-then-start-slugs

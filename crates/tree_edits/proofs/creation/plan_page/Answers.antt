@@ -29,7 +29,8 @@ returns-in-Err c = λ world asked.
     place_refuses world c.args.now c.args.caller c.args.parent c.args.slug.now c.args.content.now
     c.in-Err.fault
     (c.in-Err.ensures world (fresh_body c.args.caller world.next_revision)
-    asked.ready.stands.pages asked.ready.reached.sound.pages (create_names world c.args.caller c.args.parent c.args.slug.now
+    asked.ready.stands.pages asked.ready.reached.sound.pages
+    (create_names world c.args.caller c.args.parent c.args.slug.now
     c.args.content.now asked.front))
 
 pub overflow_add-weight : goal.overflow_add-weight
@@ -37,14 +38,16 @@ overflow_add-weight c =
     let ready = c.requires.1.ready in
     sum_fits c.weight.result c.form_length.result _ c.args.content.now
     (c.weight.ensures ∙ (weights_are c.args.part.now.shelf.revisions
-    ∙ ap contents_length ready.stands.revisions)) ready.reached.sound.revisions.contents_fit c.form_length.ensures.value
+    ∙ ap contents_length ready.stands.revisions)) ready.reached.sound.revisions.contents_fit
+    c.form_length.ensures.value
     c.form_length.ensures.fits
 
 pub returns-then-weight-form_length-gt-MAX_CONTENT_SUM :
     goal.returns-then-weight-form_length-gt-MAX_CONTENT_SUM
 returns-then-weight-form_length-gt-MAX_CONTENT_SUM c = λ world asked.
     let place = c.in-Ok.ensures world (fresh_body c.args.caller world.next_revision)
-    asked.ready.stands.pages asked.ready.reached.sound.pages (create_names world c.args.caller c.args.parent c.args.slug.now
+    asked.ready.stands.pages asked.ready.reached.sound.pages
+    (create_names world c.args.caller c.args.parent c.args.slug.now
     c.args.content.now asked.front) in
     let ids = c.in-Some.ensures world asked.ready in
     content_refuses world c.args.now c.args.caller c.args.parent c.args.slug.now
@@ -57,7 +60,8 @@ returns-then-weight-form_length-gt-MAX_CONTENT_SUM c = λ world asked.
 pub returns : goal.returns
 returns c = λ world asked.
     let place = c.in-Ok.ensures world (fresh_body c.args.caller world.next_revision)
-    asked.ready.stands.pages asked.ready.reached.sound.pages (create_names world c.args.caller c.args.parent c.args.slug.now
+    asked.ready.stands.pages asked.ready.reached.sound.pages
+    (create_names world c.args.caller c.args.parent c.args.slug.now
     c.args.content.now asked.front) in
     let ids = c.in-Some.ensures world asked.ready in (
       page_clear world c.args.now c.args.caller c.args.parent c.args.slug.now

@@ -15,7 +15,8 @@ pub overflow_add-weight : goal.overflow_add-weight
 overflow_add-weight c =
     let bound = total-bound 0 _ c.self.invariant.rises (omega arith) in
     let weighs = c.self.invariant.weighs in
-    let fits : c.form_length.result ≤ 65_536 = rw (c.form_length.ensures.value) c.form_length.ensures.fits.form_fits in
+    let fits : c.form_length.result ≤ 65_536 = rw
+    (c.form_length.ensures.value) c.form_length.ensures.fits.form_fits in
     omega arith
 
 -- what the shelf keeps then stands for all revisions

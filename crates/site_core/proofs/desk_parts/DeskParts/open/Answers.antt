@@ -11,18 +11,21 @@ use Rattle.site_core.proofs.desk_parts.DeskParts.open.Goals as goal
 pub invariant_of-self : goal.invariant_of-self
 invariant_of-self c = (
   lists.length-set c.self.inside.parts.items c.stripe_of-at.result c.open.new.self ∙ c.self.invariant.0,
-  stripes_set (λ part. part.desks) (with_desk (desk_of c.args.page c.args.user c.args.text)) c.self.inside.parts.items c.args.self.now.lists
+  stripes_set (λ part. part.desks) (with_desk (desk_of c.args.page c.args.user c.args.text))
+      c.self.inside.parts.items c.args.self.now.lists
       c.args.page c.stripe_of-at.result c.index_mut.result.now c.open.new.self _
       c.stripe_of-at.ensures c.self.invariant.0
       (ap (λ (seen : DeskLists). seen.lists) (sym c.self.view_is)) c.index_mut.ensures.value
       c.open.ensures.desks
       c.self.invariant.1
-      (λ list all. in_with_desk c.stripe_of-at.result (desk_of c.args.page c.args.user c.args.text) list (sym c.stripe_of-at.ensures) all),
+      (λ list all. in_with_desk c.stripe_of-at.result
+      (desk_of c.args.page c.args.user c.args.text) list (sym c.stripe_of-at.ensures) all),
 )
 
 pub returns-clause-lists : goal.returns-clause-lists
 returns-clause-lists c =
-    lists_set (λ part. part.desks) (with_desk (desk_of c.args.page c.args.user c.args.text)) c.self.inside.parts.items c.args.self.now.lists
+    lists_set (λ part. part.desks) (with_desk (desk_of c.args.page c.args.user c.args.text))
+    c.self.inside.parts.items c.args.self.now.lists
     c.args.page c.stripe_of-at.result c.index_mut.result.now c.open.new.self _
     c.stripe_of-at.ensures c.self.invariant.0
     (ap (λ (seen : DeskLists). seen.lists) (sym c.self.view_is)) c.index_mut.ensures.value
@@ -31,7 +34,8 @@ returns-clause-lists c =
 pub returns-clause-kept : goal.returns-clause-kept
 returns-clause-kept c = λ page.
     ap (kept_on page)
-    (lists_set (λ part. part.desks) (with_desk (desk_of c.args.page c.args.user c.args.text)) c.self.inside.parts.items c.args.self.now.lists
+    (lists_set (λ part. part.desks) (with_desk (desk_of c.args.page c.args.user c.args.text))
+    c.self.inside.parts.items c.args.self.now.lists
     c.args.page c.stripe_of-at.result c.index_mut.result.now c.open.new.self _
     c.stripe_of-at.ensures c.self.invariant.0
     (ap (λ (seen : DeskLists). seen.lists) (sym c.self.view_is)) c.index_mut.ensures.value

@@ -11,9 +11,11 @@ use Rattle.site_core.proofs.state.Core.prepare.Goals as goal
 
 pub returns-in-SaveDesk-clause-plan : goal.returns-in-SaveDesk-clause-plan
 returns-in-SaveDesk-clause-plan c = λ world ready fits.
-    subst (λ (command : Command). Prepares world c.args.now c.args.caller command c.args.self.now c.plan_saving.result)
+    subst (λ (command : Command). Prepares world c.args.now c.args.caller command c.args.self.now
+    c.plan_saving.result)
     (sym c.in-SaveDesk.is)
-    (prepares_saving c.args.self.now world ready c.args.now c.args.caller _ _ c.plan_saving.result c.plan_saving.ensures)
+    (prepares_saving c.args.self.now world ready c.args.now c.args.caller _ _ c.plan_saving.result
+    c.plan_saving.ensures)
 
 pub prepare_step-requires-clause-other : goal.prepare_step-requires-clause-other
 prepare_step-requires-clause-other c = saves_none c.args.command.now c.in_default.not-SaveDesk

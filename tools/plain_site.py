@@ -3,14 +3,16 @@
 Pages are objects with their kids, rights are found by walking from the root, and every rule is tried as
 docs/API.md lists it. Nothing here is fast.
 """
-import datetime
 import hashlib
 
-DIGITS = "0123456789ABCDEFGHIJKLMNOPQRSTUVWXYZ"
+from plain_pages import Page, Revision, time_text
+
 PERMISSIONS = ["add", "change", "publish", "bulk_delete", "lock", "unlock"]
 SUPERUSER = 7
 MAX_KIDS = 1_000
 MAX_DESKS = 4_096
+MAX_REFS = 1_000
+MAX_DEPTH = 63
 
 
 def digest_of(token):
@@ -18,82 +20,8 @@ def digest_of(token):
     return hashlib.sha256(token.encode()).hexdigest()
 
 
-def time_text(moment):
-    """The text of a moment, or None."""
-    if moment is None:
-        return None
-    at = datetime.datetime.fromtimestamp(moment, datetime.timezone.utc)
-    return at.strftime("%Y-%m-%dT%H:%M:%SZ")
-
-
 class Refused(Exception):
     """A rule refuses a command: its number, its name, and what it tells of."""
-
-
-class Revision:
-    """A content that was filed, by whom and when, and when it is to go live and to expire."""
-
-    def __init__(self, number, page, content, go_live=None, expire=None):
-        self.number, self.page, self.content = number, page, content
-        self.go_live, self.expire = go_live, expire
-
-
-class Page:
-    """A page with its step among its siblings, its kids in order, and what is kept of it."""
-
-    def __init__(self, number, slug, owner):
-        self.number, self.slug, self.step, self.owner = number, slug, 1, owner
-        self.kids, self.parent = [], None
-        self.live = self.expired = False
-        self.shown = self.latest = self.scheduled = None
-        self.first_published = self.last_published = None
-        self.locked_by = None
-
-    def walk(self):
-        """The pages from the root to the page."""
-        return (self.parent.walk() if self.parent else []) + [self]
-
-    def all_below(self):
-        """The page and all below it, depth first."""
-        found = [self]
-        for kid in self.kids:
-            found += kid.all_below()
-        return found
-
-    def path(self):
-        """The text of the page's path."""
-        above = self.parent.path() if self.parent else ""
-        text, step = "", self.step
-        for _ in range(4):
-            step, digit = divmod(step, 36)
-            text = DIGITS[digit] + text
-        return above + text
-
-    def url(self):
-        """The page's URL."""
-        return self.parent.url() + self.slug + "/" if self.parent else "/"
-
-    def content(self):
-        """What the page shows."""
-        return self.shown.content if self.shown else {"blocks": [], "title": "Root"}
-
-    def is_any_live(self):
-        """Whether the page or one below it is live."""
-        return any(page.live for page in self.all_below())
-
-    def kid_named(self, slug):
-        """The kid with the slug, or None."""
-        return next((kid for kid in self.kids if kid.slug == slug), None)
-
-    def put(self, page, place, step=None):
-        """Puts a page among the kids: at the end, or before a kid with its step (or this one)."""
-        later = self.kids[place:]
-        last = self.kids[-1].step if self.kids else 0
-        page.step = (step or later[0].step) if later else last + 1
-        for kid in later:
-            kid.step += 1
-        self.kids.insert(place, page)
-        page.parent = self
 
 
 def kind_of(goal, beside):
@@ -185,6 +113,16 @@ class Site:
         if page.locked_by not in (None, self.caller):
             raise Refused(4, "Locked", page.locked_by)
 
+    def stop_alias(self, page):
+        """Refuses what an alias cannot have: revisions, a schedule, a desk or a lock of its own."""
+        if page.source:
+            raise Refused(5, "IsAlias")
+
+    def stop_deep(self, above, height=1):
+        """Refuses pages of so many levels below a page where one would be too deep."""
+        if len(above.walk()) + height > MAX_DEPTH:
+            raise Refused(10, "TooDeep")
+
     def stop_taken(self, above, slug, moved=None):
         """Refuses a slug that a kid has."""
         taken = next((kid for kid in above.kids if kid.slug == slug and kid is not moved), None)
@@ -251,15 +189,21 @@ class Site:
 
     # -- commands on the tree
 
+    def new_page(self, above, slug):
+        """A page of the caller's after the kids of a page."""
+        page = Page(self.next, slug, self.caller)
+        above.put(page, len(above.kids))
+        self.pages[page.number] = page
+        self.next += 1
+        return page
+
     def pages_post(self, parent, slug, content):
         """A page is made."""
         above = self.find(parent)
         self.need(self.holds("add", above), "add")
         self.stop_taken(above, slug)
-        page = Page(self.next, slug, self.caller)
-        above.put(page, len(above.kids))
-        self.pages[page.number] = page
-        self.next += 1
+        self.stop_deep(above)
+        page = self.new_page(above, slug)
         page.shown = self.file_revision(page, content)
         return self.replied(page)
 
@@ -279,6 +223,7 @@ class Site:
         if goal is moved:
             raise Refused(15, "NothingNew")
         self.stop_taken(above, moved.slug, moved)
+        self.stop_deep(above, moved.height())
         self.seen.add((position, kind_of(goal, beside)))
         moved.parent.kids.remove(moved)
         if position.startswith("first"):
@@ -295,8 +240,13 @@ class Site:
         self.need_to_take(gone)
         self.need(not gone.kids or self.holds("bulk_delete", gone), "bulk_delete")
         self.stop_locked(gone)
-        gone.parent.kids.remove(gone)
         all_gone = gone.all_below()
+        for number in sorted(self.pages):
+            one = self.pages[number]
+            if one.source in all_gone and one not in all_gone:
+                self.make_regular(one)
+                self.seen.add(("delete", "the source of an alias that stays"))
+        gone.parent.kids.remove(gone)
         for one in all_gone:
             del self.pages[one.number]
         self.grants = {grant for grant in self.grants if grant[0] in self.pages}
@@ -315,6 +265,41 @@ class Site:
         one.slug = slug
         return self.replied(one)
 
+    # -- aliases
+
+    def make_regular(self, alias):
+        """An alias becomes a regular page that shows what it showed, and is live as it was."""
+        content, live = alias.content(), alias.is_live()
+        alias.source, alias.live = None, live
+        alias.shown = self.file_revision(alias, content)
+        alias.first_published = alias.last_published = self.moment() if live else None
+
+    def alias_post(self, source, parent, slug):
+        """An alias of a page is made, or of the source of that page."""
+        of, above = self.find(source), self.find(parent)
+        if of is self.root:
+            raise Refused(2, "IsRoot")
+        self.need(self.holds("add", above), "add")
+        self.need(not of.is_live() or self.holds("publish", above), "publish")
+        self.stop_taken(above, slug)
+        self.stop_deep(above)
+        if of.source:
+            self.seen.add(("alias", "of an alias"))
+        page = self.new_page(above, slug)
+        page.source = of.showing()
+        return self.replied(page)
+
+    def detach_post(self, page):
+        """An alias becomes a regular page."""
+        one = self.below_root(page)
+        self.need(self.may_edit(one), "change")
+        self.need(not one.is_live() or self.holds("publish", one), "publish")
+        if not one.source:
+            raise Refused(15, "NothingNew")
+        self.seen.add(("detach", "a live alias" if one.is_live() else "an alias that is not live"))
+        self.make_regular(one)
+        return {}
+
     # -- commands on desks
 
     def open_post(self, page):
@@ -322,6 +307,7 @@ class Site:
         one = self.below_root(page)
         self.need(self.may_edit(one), "change")
         self.stop_locked(one)
+        self.stop_alias(one)
         if page in self.desks:
             raise Refused(14, "DeskTaken", self.desks[page][0])
         if len(self.desks) >= MAX_DESKS:
@@ -358,6 +344,7 @@ class Site:
         one, moment = self.below_root(page), self.moment()
         self.need(self.holds("publish", one), "publish")
         self.stop_locked(one)
+        self.stop_alias(one)
         latest = one.latest
         waits = latest.go_live is not None and latest.go_live > moment
         if (one.live and one.shown is latest) or (one.scheduled is latest and waits):
@@ -370,20 +357,69 @@ class Site:
             one.scheduled = latest
             self.seen.add(("publish", "scheduled"))
         else:
-            one.shown, one.live, one.expired, one.scheduled = latest, True, False, None
-            one.first_published = one.first_published if one.first_published is not None else moment
-            one.last_published = moment
+            self.show(one, latest)
         return {"scheduled": waits}
+
+    def show(self, page, revision):
+        """A revision of a page is published now."""
+        page.shown, page.live, page.expired, page.scheduled = revision, True, False, None
+        page.last_published = self.moment()
+        if page.first_published is None:
+            page.first_published = page.last_published
 
     def unpublish_post(self, page):
         """The page is taken out of the public."""
         one = self.below_root(page)
         self.need(self.holds("publish", one), "publish")
         self.stop_locked(one)
+        self.stop_alias(one)
         if not one.live:
             raise Refused(16, "NotLive")
         one.live, one.scheduled = False, None
         return {}
+
+    def unschedule_post(self, page):
+        """What waits for its go-live waits no more."""
+        one = self.below_root(page)
+        self.need(self.holds("publish", one), "publish")
+        self.stop_locked(one)
+        self.stop_alias(one)
+        if one.scheduled is None:
+            raise Refused(15, "NothingNew")
+        one.scheduled = None
+        return {}
+
+    def due_pages(self, moment_of):
+        """The pages whose moment has come, in the order of moments and ids."""
+        found = [(moment_of(page), page.number) for page in self.pages.values()]
+        return [
+            self.pages[number]
+            for at, number in sorted(one for one in found if one[0] is not None)
+            if at <= self.moment()
+        ]
+
+    def tick_post(self):
+        """What is due comes: pages expire, and then revisions go live or are dropped."""
+        self.need(self.is_super(), "superuser")
+        ending = self.due_pages(lambda page: page.shown.expire if page.live else None)
+        coming = self.due_pages(lambda page: page.scheduled.go_live if page.scheduled else None)
+        if not ending and not coming:
+            self.seen.add(("tick", "nothing due"))
+            raise Refused(15, "NothingNew")
+        for page in ending:
+            page.live, page.expired = False, True
+        is_late = lambda r: r.expire is not None and r.expire <= self.moment()
+        dropped = [page for page in coming if is_late(page.scheduled)]
+        for page in coming:
+            if page in dropped:
+                page.scheduled = None
+            else:
+                self.show(page, page.scheduled)
+        told = {"dropped": dropped, "published": [page for page in coming if page not in dropped]}
+        told["unpublished"] = ending
+        self.seen |= {("tick", name) for name, pages in told.items() if pages}
+        self.seen |= {("tick", "expired and published")} if set(ending) & set(told["published"]) else set()
+        return {name: [page.number for page in pages] for name, pages in told.items()}
 
     def lock_post(self, page):
         """The page is locked for the caller."""
@@ -391,6 +427,7 @@ class Site:
         self.need(self.holds("lock", one), "lock")
         if one.locked_by is not None:
             raise Refused(4, "Locked", one.locked_by)
+        self.stop_alias(one)
         one.locked_by = self.caller
         return {}
 
@@ -408,6 +445,7 @@ class Site:
         one = self.below_root(page)
         self.need(self.may_edit(one), "change")
         self.stop_locked(one)
+        self.stop_alias(one)
         kept = {one.shown, one.latest, one.scheduled}
         gone = [n for n, r in self.revisions.items() if r.page == page and r not in kept]
         if not gone:
@@ -455,14 +493,14 @@ class Site:
             return {"name": "NoPage", "refused": 1, "with": number}
         page, number_of = self.pages[number], lambda one: one.number if one else 0
         return self.replied(page) | {
-            "alias_of": 0,
+            "alias_of": number_of(page.source),
             "depth": len(page.walk()),
             "expire_at": time_text(page.shown.expire) if page.shown else None,
             "expired": page.expired,
             "first_published_at": time_text(page.first_published),
             "last_published_at": time_text(page.last_published),
             "latest": number_of(page.latest),
-            "live": page.live,
+            "live": page.is_live(),
             "locked_by": page.locked_by or 0,
             "moderation": "none",
             "numchild": len(page.kids),
@@ -472,16 +510,16 @@ class Site:
             "slug": page.slug,
             "task": 0,
             "title": page.content()["title"],
-            "unpublished_changes": page is not self.root
+            "unpublished_changes": page.latest is not None
             and (not page.live or page.shown is not page.latest),
         }
 
     def public(self, url):
         """What everybody is answered at a URL."""
-        page = next((one for one in self.pages.values() if one.url() == url and one.live), None)
+        page = next((one for one in self.pages.values() if one.url() == url and one.is_live()), None)
         if page is None:
             return {"error": "NotFound"}
-        kids = [kid for kid in page.kids if kid.live][:MAX_KIDS]
+        kids = [kid for kid in page.kids if kid.is_live()][:MAX_KIDS]
         return {
             "blocks": page.content()["blocks"],
             "children": [
@@ -491,6 +529,12 @@ class Site:
             "title": page.content()["title"],
             "url": url,
         }
+
+    def refs(self, number):
+        """The pages that link to a page."""
+        if number not in self.pages:
+            return {"name": "NoPage", "refused": 1, "with": number}
+        return {"refs": sorted(n for n, page in self.pages.items() if number in page.links())[:MAX_REFS]}
 
     def desk(self, token, number):
         """The caller's text of a page."""

@@ -65,10 +65,10 @@ a_desk : route_of (codes "/api/desks/2") ≡ read_named reads.Desk (codes "2")
 unfolding route_of
 a_desk = refl
 
--- what is not built of a page
-no_refs : route_of (codes "/api/refs/2") ≡ unbuilt
+-- the pages that link to a page
+some_refs : route_of (codes "/api/refs/2") ≡ read_named reads.Refs (codes "2")
 unfolding route_of
-no_refs = refl
+some_refs = refl
 
 -- `/api` and what is below it has no other route, and any other path is for everybody
 api_alone : route_of (codes "/api") ≡ nowhere
@@ -231,7 +231,7 @@ unfolding call_of route_of
 an_unknown_path = refl
 
 -- not built
-not_built : call_of (bare_request Other (codes "/api/alias")) ≡ Err NotBuilt
+not_built : call_of (bare_request Other (codes "/api/tasks")) ≡ Err NotBuilt
 unfolding call_of route_of
 not_built = refl
 

@@ -1,12 +1,13 @@
--- The definition of the commands on users, groups, memberships, grants and desks at worked values.
+-- The definition of the commands on users, groups, memberships, grants and desks, of aliases, copies
+-- and ticks at worked values.
 use Rattle.std.proofs.Common.{◌≡◌, ℕ, List, [], ◌∷◌, Some, None, refl, codes, true, false}
 use Rattle.serde_json.specs.Data.{Data, null, boolean, unsigned, number, string, array, object, no_items, no_members, member}
 use Rattle.civil_time.specs.Periods.{days_of_first, place_of}
 use Rattle.civil_time.specs.TimeText.{civil_at, time_text}
-use Rattle.site_types.specs.declared.command.Command.TheVariants.{SaveDesk, File, DefineUser, DefineGroup, Member, Grant}
+use Rattle.site_types.specs.declared.command.Command.TheVariants.{Alias, Copy, SaveDesk, File, DefineUser, DefineGroup, Member, Grant, Tick}
 use Rattle.site_types.specs.declared.permission.Permission.TheVariants.{BulkDelete}
 use Rattle.wire_model.specs.Times.{time_of}
-use Rattle.wire_model.specs.Forms.{hex_bytes, digest_of, saving_in, filing_in, user_definition_in, group_definition_in, membership_in, grant_in}
+use Rattle.wire_model.specs.Forms.{hex_bytes, digest_of, alias_in, copy_in, tick_in, saving_in, filing_in, user_definition_in, group_definition_in, membership_in, grant_in}
 
 -- the SHA-256 digest of `hello`, as bytes
 abbrev hello : List ℕ
@@ -155,3 +156,44 @@ a_scheduled_filing = refl
 -- a number is no moment
 no_moment : filing_in (filing_object (number (unsigned 0)) null) ≡ None
 no_moment = refl
+
+-- {"parent":1,"slug":..,"source":2} with this slug
+abbrev alias_object : List ℕ → Data
+alias_object slug =
+    object
+    (member (codes "parent") (number (unsigned 1))
+    (member (codes "slug") (string slug)
+    (member (codes "source") (number (unsigned 2)) no_members)))
+
+-- an alias of page 2 is added below the root, and no slug is empty
+an_alias : alias_in (alias_object (codes "q")) ≡ Some (Alias 2 1 (codes "q"))
+an_alias = refl
+
+-- no slug
+no_alias : alias_in (alias_object []) ≡ None
+no_alias = refl
+
+-- {"deep":..,"page":2,"parent":3,"slug":"c"} with this depth
+abbrev copy_object : Data → Data
+copy_object deep =
+    object
+    (member (codes "deep") deep
+    (member (codes "page") (number (unsigned 2))
+    (member (codes "parent") (number (unsigned 3))
+    (member (codes "slug") (string (codes "c")) no_members))))
+
+-- page 2 is copied below page 3 with its descendants, and a number is no truth value
+a_copy : copy_in (copy_object (boolean true)) ≡ Some (Copy 2 3 (codes "c") true)
+a_copy = refl
+
+-- no truth value
+no_copy : copy_in (copy_object (number (unsigned 1))) ≡ None
+no_copy = refl
+
+-- a tick has no members
+a_tick : tick_in (object no_members) ≡ Some Tick
+a_tick = refl
+
+-- a member too many
+no_tick : tick_in (copy_object null) ≡ None
+no_tick = refl

@@ -4,8 +4,6 @@ mod PatternLemmas
 mod PlacedLemmas
 mod RouteLemmas
 mod CallLemmas
-pub mod FloatLemmas
 mod CallExamples
 mod FormExamples
-mod ResponseExamples
 mod DigestLemmas

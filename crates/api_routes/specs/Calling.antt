@@ -6,7 +6,7 @@ use Rattle.std.specs.List.{list_all}
 use Rattle.std.specs.Str.Parse.{digits_value}
 use Rattle.site_ids.specs.declared.ids.TheConstants.{LAST_PAGE_ID}
 use Rattle.wire_model.specs.declared.call.Call.{Call}
-use Rattle.wire_model.specs.declared.call.Call.TheVariants.{Run, Page, Desk, Public}
+use Rattle.wire_model.specs.declared.call.Call.TheVariants.{Run, Page, Refs, Desk, Public}
 use Rattle.wire_model.specs.declared.call.RouteFault.{RouteFault}
 use Rattle.wire_model.specs.declared.call.RouteFault.TheVariants.{NotFound, NotBuilt, Method, Form, Memory}
 
@@ -15,6 +15,7 @@ use Rattle.wire_model.specs.declared.call.RouteFault.TheVariants.{NotFound, NotB
 abbrev pub MayWant : Result Call RouteFault → Type 0
 MayWant (Ok (Run command)) = Unit {0}
 MayWant (Ok (Page page)) = ⊥
+MayWant (Ok (Refs page)) = ⊥
 MayWant (Ok (Desk page)) = ⊥
 MayWant (Ok (Public url)) = Unit {0}
 MayWant (Err NotFound) = ⊥

@@ -1,5 +1,4 @@
 pub mod Routing
 pub mod Router
 pub mod Calling
-pub mod CardParts
 pub mod Digests

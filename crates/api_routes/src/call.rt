@@ -88,6 +88,7 @@ fn read_of(form: ReadForm, page: PageId) -> Call
 {
     match form {
         ReadForm::Card => Call::Page(page),
+        ReadForm::Refs => Call::Refs(page),
         ReadForm::Desk => Call::Desk(page),
     }
 }

@@ -2,7 +2,7 @@
 ghost use Rattle.std.specs.Prelude.{◌≡◌};
 ghost use Rattle.serde_json.specs.View.{view};
 ghost use Rattle.block_content.specs.Reads.{Reads};
-ghost use Rattle.wire_model.specs.Forms.{command_in, creation_in, move_in, slug_change_in, saving_in, filing_in, page_command_in, command_on, user_definition_in, group_definition_in, membership_in, grant_in};
+ghost use Rattle.wire_model.specs.Forms.{command_in, creation_in, move_in, slug_change_in, alias_in, copy_in, saving_in, filing_in, page_command_in, command_on, user_definition_in, group_definition_in, membership_in, grant_in, tick_in};
 
 use crate::member::{
     content_at, digest_at, group_at, id_at, permission_at, position_at, slug_at, time_at, truth_at,
@@ -27,6 +27,8 @@ pub(crate) fn command_in(
         CommandForm::Create => creation_in(alloc, value),
         CommandForm::Move => or_bad(move_in(value)),
         CommandForm::SetSlug => or_bad(slug_change_in(value)),
+        CommandForm::Alias => or_bad(alias_in(value)),
+        CommandForm::Copy => or_bad(copy_in(value)),
         CommandForm::OnPage(verb) => or_bad(page_command_in(verb, value)),
         CommandForm::Save => saving_in(alloc, value),
         CommandForm::File => or_bad(filing_in(value)),
@@ -34,6 +36,7 @@ pub(crate) fn command_in(
         CommandForm::DefineGroup => or_bad(group_definition_in(value)),
         CommandForm::Member => or_bad(membership_in(value)),
         CommandForm::Grant => or_bad(grant_in(value)),
+        CommandForm::Tick => or_bad(tick_in(value)),
     }
 }
 
@@ -95,6 +98,42 @@ fn slug_change_in(value: &Value) -> Option<Command>
     let page = id_at(value, "page")?;
     let slug = slug_at(value)?;
     Some(Command::SetSlug { page, slug })
+}
+
+/// The alias that a value asks for.
+fn alias_in(value: &Value) -> Option<Command>
+    ensures { result ≡ alias_in (view value.now) }
+{
+    if !has_exactly(value, &["parent", "slug", "source"]) {
+        return None;
+    }
+    let source = id_at(value, "source")?;
+    let parent = id_at(value, "parent")?;
+    let slug = slug_at(value)?;
+    Some(Command::Alias {
+        source,
+        parent,
+        slug,
+    })
+}
+
+/// The copy that a value asks for.
+fn copy_in(value: &Value) -> Option<Command>
+    ensures { result ≡ copy_in (view value.now) }
+{
+    if !has_exactly(value, &["deep", "page", "parent", "slug"]) {
+        return None;
+    }
+    let page = id_at(value, "page")?;
+    let parent = id_at(value, "parent")?;
+    let slug = slug_at(value)?;
+    let deep = truth_at(value, "deep")?;
+    Some(Command::Copy {
+        page,
+        parent,
+        slug,
+        deep,
+    })
 }
 
 /// The saving of a text at a desk that a value asks for.
@@ -210,4 +249,11 @@ fn grant_in(value: &Value) -> Option<Command>
         permission,
         on,
     })
+}
+
+/// The tick that a value asks for.
+fn tick_in(value: &Value) -> Option<Command>
+    ensures { result ≡ tick_in (view value.now) }
+{
+    has_exactly(value, &[]).then_some(Command::Tick)
 }

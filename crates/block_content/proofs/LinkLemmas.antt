@@ -6,7 +6,7 @@ use Rattle.std.proofs.lemmas.List.Sorted.{Contains-permutation, IsPermutation-sy
 use Rattle.std.specs.List.{dedup}
 use Rattle.site_types.specs.declared.block.Block.{Block}
 use Rattle.site_types.specs.declared.block.Block.TheVariants.{Heading, Paragraph, Items, Page}
-use Rattle.block_content.specs.Linked.{pages_in}
+use Rattle.site_types.specs.Links.{pages_in}
 
 -- a list of one element has that one
 only_one : {X : Type 0} (x y : X) → Contains (x ∷ []) y → x ≡ y

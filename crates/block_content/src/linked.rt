@@ -1,7 +1,7 @@
 //! The pages that contents link to.
 ghost use Rattle.std.specs.Prelude.{◌≡◌, ◌↔◌, ℕ, Contains, IfOk};
 ghost use Rattle.std.specs.List.Sorted.{IsStrictlyIncreasing};
-ghost use Rattle.block_content.specs.Linked.{LinksTo, pages_in};
+ghost use Rattle.site_types.specs.Links.{LinksTo, pages_in};
 
 use site_types::{Block, Content, Ids, NoMemory};
 use std::alloc::Global;

@@ -1,2 +1,3 @@
+pub mod BodyRows
 pub mod ListLemmas
 pub mod MoveRows

@@ -14,18 +14,20 @@ use Rattle.page_store.specs.Relabelling.{AreListed, KeepParents}
 use Rattle.page_store.specs.declared.plan.MovePlan.{MovePlan}
 use Rattle.site_model.specs.Rights.{user_of}
 use Rattle.tree_model.specs.Changes.{path_in}
+use Rattle.publishing.specs.Laws.{IsUntimed}
 use Rattle.flat_model.specs.Lists.{PeopleLists, PartLists}
-use Rattle.flat_model.specs.Made.{Pages, with_page, with_move, outside, rows_made, revisions_left, purge_left, people_left}
+use Rattle.flat_model.specs.Made.{Pages, with_page, with_move, outside, rows_made, people_left}
 use Rattle.flat_model.specs.declared.change.Change.{Change}
 use Rattle.flat_model.specs.declared.change.TreeChange.{TreeChange}
 use Rattle.flat_model.specs.declared.change.TreeChange.TheVariants as trees
 use Rattle.flat_model.specs.declared.change.PeopleChange.{PeopleChange}
 use Rattle.flat_model.specs.declared.change.PeopleChange.TheVariants as people
 
--- each new row may be put in when its turn comes
+-- each new row may be put in when its turn comes, and is neither live nor scheduled
 abbrev pub PagesFit : List (PageRow × List ℕ) → Pages → Type 0
 PagesFit [] rows = Unit {0}
-PagesFit (new ∷ more) rows = IsNewRow rows new.0 × PagesFit more (with_page new rows)
+PagesFit (new ∷ more) rows =
+    IsNewRow rows new.0 × IsUntimed new.0.body × PagesFit more (with_page new rows)
 
 -- A move of a page that is there, to a place among the rows that remain: it lists pages that are
 -- there, each once, and leaves the rows of a tree, where no page but the moved one has another parent.
@@ -67,11 +69,10 @@ PeopleFit people.Group lists = lists.next_group ≤ LAST_GROUP_ID
 PeopleFit (people.Member user group on) lists = Unit {0}
 PeopleFit (people.Grant group page permission on) lists = Unit {0}
 
--- A change that lists can take.
+-- A change that lists can take. The revisions that come have greater ids than those that go, too.
 pub record Fits (lists : PartLists) (change : Change) : Type 0 where
   pub tree : TreeFits change.tree lists.pages
   pub bodies : BodiesFit change.bodies (rows_made change.tree lists.pages)
   pub gone : AllByRecursion IsPageId change.gone
-  pub revisions : RevisionsFit change.revisions
-      (purge_left change.purge (revisions_left change.gone lists.revisions))
+  pub revisions : RevisionsFit change.revisions lists.revisions
   pub people : PeopleFit change.people (people_left change.gone lists.people)

@@ -5,24 +5,40 @@ use Rattle.std.specs.Option.{option_and_then}
 use Rattle.page_tree.specs.Tree.{Forest, has_page}
 use Rattle.site_types.specs.declared.body.Body.{Body}
 use Rattle.site_types.specs.declared.command.Command.TheVariants as commands
+use Rattle.site_types.specs.declared.refusal.Refusal.TheVariants.{IsAlias}
 use Rattle.site_types.specs.declared.revision.Revision.{Revision}
 use Rattle.tree_model.specs.Shape.{AllPages}
 use Rattle.tree_model.proofs.CountLemmas.{has_counts, node_found}
 use Rattle.tree_model.proofs.PageLemmas.{AllPages-node_of}
 use Rattle.site_model.specs.World as worlds
 use Rattle.site_model.specs.Bodies.{revision_with, latest_of}
-use Rattle.site_model.specs.Front.{Stops, StopsNobody, StopsOthers, StopsEveryone, on_page, row_of, front_by, front_rules}
-use Rattle.site_model.specs.Needs.{needs_of}
+use Rattle.site_model.specs.Front.{Stops, StopsNobody, StopsOthers, StopsEveryone, on_page, row_of, is_alias, locked, locked_by, aliased, front_by, front_rules}
+use Rattle.site_model.specs.Needs.{needs_of, denied}
 use Rattle.site_model.specs.Reached.{IsReachedPart}
+use Rattle.site_model.specs.Rules.{no_pages, are_root}
 use Rattle.site_model.specs.Sound.{IsBody, is_own}
-use Rattle.site_model.specs.Views.{first_body, body_of}
+use Rattle.site_model.specs.Views.{first_body, body_of, view_of}
 use Rattle.site_model.proofs.AcceptLemmas.{front_parts, page_found}
+use Rattle.site_model.proofs.ClearLemmas.{first_clear, test_clear}
 use Rattle.site_model.proofs.Deeds.{below_root}
 
 -- A page that is there, and is not the root.
 pub record IsBelow (tree : Forest Body) (page : ℕ) : Type 0 where
   pub there : has_page page tree ≡ true
   pub below : page ≡ 1 → ⊥
+
+-- a page whose kind is asked for is no alias where the first rules let it pass
+not_alias : (part : worlds.TreePart) (caller page : ℕ) (lock moderation : Stops)
+    (needs : List (Option ℕ)) →
+    front_by part caller (on_page page lock true moderation) needs ≡ None →
+    is_alias (body_of part.tree page) ≡ false
+not_alias part caller page lock moderation needs none =
+    let pages = first_clear (no_pages part.tree (page ∷ [])) _ none in
+    let below = first_clear (are_root (page ∷ [])) _ pages.1 in
+    let may = first_clear (denied part caller needs) _ below.1 in
+    let free = first_clear (locked lock caller (locked_by (view_of part page))) _ may.1 in
+    let alias = first_clear (aliased true (body_of part.tree page)) _ free.1 in
+    test_clear (is_alias (body_of part.tree page)) IsAlias alias.0
 
 module _ (part : worlds.TreePart) (caller page : ℕ) where
   -- the page of a command on a page below the root
@@ -46,6 +62,25 @@ module _ (part : worlds.TreePart) (caller page : ℕ) where
   unfolding front_rules row_of
   publish_names =
       on_page_names StopsOthers true StopsOthers (needs_of part caller (commands.Publish page))
+
+  -- and these ask for its kind
+  pub open_regular : front_rules part caller (commands.OpenDesk page) ≡ None →
+      is_alias (body_of part.tree page) ≡ false
+  unfolding front_rules row_of
+  open_regular =
+      not_alias part caller page StopsOthers StopsOthers (needs_of part caller (commands.OpenDesk page))
+
+  pub publish_regular : front_rules part caller (commands.Publish page) ≡ None →
+      is_alias (body_of part.tree page) ≡ false
+  unfolding front_rules row_of
+  publish_regular =
+      not_alias part caller page StopsOthers StopsOthers (needs_of part caller (commands.Publish page))
+
+  pub unschedule_names : front_rules part caller (commands.Unschedule page) ≡ None →
+      IsBelow part.tree page
+  unfolding front_rules row_of
+  unschedule_names =
+      on_page_names StopsOthers true StopsNobody (needs_of part caller (commands.Unschedule page))
 
   pub unpublish_names : front_rules part caller (commands.Unpublish page) ≡ None →
       IsBelow part.tree page
@@ -123,18 +158,27 @@ named_found : (revisions : List Revision) (page : ℕ) (latest : Option ℕ) →
 named_found revisions page None own none = cc
 named_found revisions page (Some id) own none = own_found revisions page id own none
 
--- a page below the root has a latest revision
+-- a page that is no alias has no source
+no_source : (body : Body) → is_alias (Some body) ≡ false → body.source ≡ None
+no_source body is = by body.source refl
+  where
+    by : (source : Option ℕ) → body.source ≡ source → body.source ≡ None
+    by None same = same
+    by (Some other) same = absurd (cc (ap (λ (one : Option ℕ). is_alias (Some (record body {
+      source = one;
+    }))) same))
+
+-- a page below the root that is no alias has a latest revision
 pub latest_there : (part : worlds.TreePart) (page : ℕ) → IsReachedPart part →
-    IsBelow part.tree page → None ≡ latest_of part page → ⊥
-latest_there part page reached below none =
+    IsBelow part.tree page → is_alias (body_of part.tree page) ≡ false →
+    None ≡ latest_of part page → ⊥
+latest_there part page reached below regular none =
     let there = kept_there page part.tree below.there in
     let body = there.0 in
     let found = there.1 in
     let kept = first_has (IsBody part.revisions part.next_user part.next_workflow part.workflows)
     page part.tree body reached.sound.bodies.bodies below.there found in
-    let source = first_has (λ id own. own.source ≡ None) page part.tree body reached.none_yet.no_alias
-    below.there found in
-    let own = kept.regular below.below source in
+    let own = kept.regular below.below (no_source body (rw found at regular)) in
     let at : latest_of part page
     ≡ option_and_then (λ (id : ℕ). revision_with id part.revisions) body.latest = rw found refl in
     named_found part.revisions page body.latest own.latest (sym at ∙ sym none)

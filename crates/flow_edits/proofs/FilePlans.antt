@@ -231,12 +231,7 @@ module _ (kept room : TreePart) (part : worlds.TreePart) (desk : Option ContentV
           tree = tt;
           bodies = (row_there page body part.tree found, tt);
           gone = tt;
-          revisions = (
-            subst (λ (rs : List Revision).
-                AllByRecursion (λ (older : Revision). older.id < part.next_revision) rs)
-                (sym kept_out) ready.reached.sound.revisions.revision_ids,
-            tt,
-          );
+          revisions = (ready.reached.sound.revisions.revision_ids, tt);
           people = tt;
         })
         (lists_are

@@ -34,24 +34,6 @@ use Rattle.flow_edits.specs.People.{ReadiesPlan, member_lost, grant_lost}
 use Rattle.flow_edits.proofs.PeoplePlans.{people_planned}
 use Rattle.flow_edits.proofs.Steps.{Agree, none_end, ends_step}
 
--- what is the same twice is the same
-pub same_both : (before mid after : TreePart) → IsSame before mid → IsSame mid after →
-    IsSame before after
-same_both before mid after one other = record {
-  pages = other.pages ∙ one.pages;
-  revisions = other.revisions ∙ one.revisions;
-  lists = record {
-    users = other.lists.users ∙ one.lists.users;
-    groups = other.lists.groups ∙ one.lists.groups;
-    members = other.lists.members ∙ one.lists.members;
-    grants = other.lists.grants ∙ one.lists.grants;
-  };
-  desks = other.desks ∙ one.desks;
-  time = other.time ∙ one.time;
-  next_page = other.next_page ∙ one.next_page;
-  next_revision = other.next_revision ∙ one.next_revision;
-}
-
 -- a list with something set that is not so already is the list after it
 set_so : {X : Type 0} (already : Bool) (before after : X) → already ≡ false →
     cond already before after ≡ after

@@ -11,3 +11,9 @@ pub mod FilePlans
 pub mod PeoplePlans
 pub mod JoiningPlans
 pub mod PeopleRights
+pub mod RowIds
+pub mod TickRows
+pub mod TickFound
+pub mod TickFields
+pub mod TickLeads
+pub mod TickPlans

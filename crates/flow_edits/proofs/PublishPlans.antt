@@ -1,6 +1,6 @@
--- Publishing and unpublishing: what is refused, and what is planned.
-use Rattle.std.proofs.Common.{◌≡◌, ◌||◌, ℕ, Bool, true, false, cond, List, [], Option, Some, None, Result, Ok, Err, refl, sym, ap, subst, ◌∙◌}
-use Rattle.std.specs.Option.{option_or}
+-- Publishing, unpublishing and emptying a schedule: what is refused, and what is planned.
+use Rattle.std.proofs.Common.{◌≡◌, ◌||◌, ℕ, Bool, true, false, not, cond, List, [], Option, Some, None, Result, Ok, Err, refl, sym, ap, subst, ◌∙◌}
+use Rattle.std.specs.Option.{option_or, is_none, is_some}
 use Rattle.site_types.specs.Content.{ContentValue}
 use Rattle.site_types.specs.declared.body.Body.{Body}
 use Rattle.site_types.specs.declared.command.Command.TheVariants as commands
@@ -12,7 +12,7 @@ use Rattle.site_model.specs.World as worlds
 use Rattle.site_model.specs.Bodies.{rebodied, is_after, latest_of}
 use Rattle.site_model.specs.Losing.{suspects_of, shuts}
 use Rattle.site_model.specs.Moderations.{after_publishing}
-use Rattle.site_model.specs.Publishing.{published_body, has_expired, expires_first, is_out, publish_rules, publish, unpublish_rules, unpublish}
+use Rattle.site_model.specs.Publishing.{published_body, has_expired, expires_first, is_out, publish_rules, publish, unpublish_rules, unpublish, unschedule_rules, unschedule}
 use Rattle.site_model.specs.Step.{rules, step_by}
 use Rattle.site_model.specs.Step as steps
 use Rattle.site_model.specs.Views.{body_of}
@@ -29,6 +29,13 @@ use Rattle.flow_edits.specs.Plans.{ending_plan, Plans}
 use Rattle.flow_edits.proofs.Facts.{publish_names, not_moderated}
 use Rattle.flow_edits.proofs.Planned.{prepared, body_planned, fields_same}
 use Rattle.flow_edits.proofs.Steps.{none_end, ends_step}
+
+-- there is none where there is not some
+is_absent : (scheduled : Option ℕ) (t : Bool) → is_some scheduled ≡ t → is_none scheduled ≡ not t
+is_absent None true is = absurd (cc)
+is_absent None false is = refl
+is_absent (Some revision) true is = refl
+is_absent (Some revision) false is = absurd (cc)
 
 -- without a moderation there is none afterwards
 still_none : (moderation : Option Moderation) → moderation ≡ None →
@@ -206,3 +213,54 @@ module _ (kept : TreePart) (part : worlds.TreePart) (desk : Option ContentValue)
       (record part { time = worlds.time_at part now; tree = rebodied page change part.tree })
       replies.Done false asked.front refl (unpublish_own ∙ rw (found, live) refl) unpublish_done refl
       [] unpublish_ends (none_end part.desk_pairs))) is
+
+module _ (kept : TreePart) (part : worlds.TreePart) (desk : Option ContentValue)
+    (now caller page : ℕ) (asked : IsAsked kept part desk caller (commands.Unschedule page))
+    (body : Body) (found : body_of part.tree page ≡ Some body) where
+  -- the command's own rules, and what it does
+  unschedule_own : rules part desk now caller (commands.Unschedule page)
+      ≡ unschedule_rules part page
+  unfolding rules
+  unschedule_own = refl
+
+  unschedule_done : steps.effect part desk now caller (commands.Unschedule page)
+      ≡ unschedule part now page
+  unfolding steps.effect
+  unschedule_done = refl
+
+  -- it ends no desk
+  unschedule_ends : (left : worlds.TreePart) (told : worlds.Effect) →
+      step_by part desk now caller (commands.Unschedule page) ≡ Ok (left, told) → told.ended ≡ []
+  unfolding suspects_of shuts
+  unschedule_ends left told is =
+      ends_none part left told desk now caller (commands.Unschedule page)
+      asked.given.ready.reached.sound refl refl is
+
+  -- a page that has nothing scheduled
+  pub unschedule_idle : is_some body.scheduled ≡ false →
+      step_by part desk now caller (commands.Unschedule page) ≡ Err NothingNew
+  unschedule_idle is =
+      own_refuses part desk now caller (commands.Unschedule page) NothingNew asked.front refl
+      (unschedule_own ∙ rw (found, is_absent body.scheduled false is) refl)
+
+  -- what is told of one that has
+  pub unschedule_prepared : is_some body.scheduled ≡ true → (time : ℕ) →
+      time ≡ worlds.time_at part now → (new : Body) (shut : List ℕ) →
+      new ≡ record body { scheduled = None } → shut ≡ [] → (result : Result Plan Fault) →
+      Plans (ending_plan replies.Done shut
+      (body_change page new time kept.next_page kept.next_revision)) result →
+      Prepares part desk now caller (commands.Unschedule page) kept result
+  unschedule_prepared waits time time_is new shut new_is shut_is result is =
+      let ready = asked.given.ready in
+      let change : Body → Body = λ (one : Body). record one { scheduled = None } in
+      prepared (commands.Unschedule page) kept part desk now caller _ _ result
+      (fields_same replies.Done replies.Done shut [] page new (change body) time kept.next_page
+      kept.next_revision refl shut_is new_is)
+      (body_planned (commands.Unschedule page) kept part desk now caller page replies.Done [] change
+      body (change body) time kept.next_page kept.next_revision ready found refl time_is
+      ready.stands.next_page ready.stands.next_revision
+      (ends_step part desk now caller (commands.Unschedule page)
+      (record part { time = worlds.time_at part now; tree = rebodied page change part.tree })
+      replies.Done false asked.front refl
+      (unschedule_own ∙ rw (found, is_absent body.scheduled true waits) refl) unschedule_done refl []
+      unschedule_ends (none_end part.desk_pairs))) is

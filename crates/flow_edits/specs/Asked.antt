@@ -24,8 +24,8 @@ pub record IsAsked (kept : TreePart) (part : worlds.TreePart) (desk : Option Con
   pub given : IsGiven kept part desk caller command
   pub front : front_rules part caller command ≡ None
 
--- whether the command is planned here: those on drafts, publishing, locks and revisions, and those
--- on users and groups; a text that is saved needs no plan
+-- whether the command is planned here: those on drafts, publishing, locks and revisions, those on
+-- users and groups, and ticks; a text that is saved needs no plan
 abbrev pub is_flow : Command → Bool
 is_flow (commands.Create parent slug content) = false
 is_flow (commands.Move page target position) = false
@@ -40,7 +40,7 @@ is_flow (commands.ShutDesk page) = true
 is_flow (commands.File page go_live expire) = true
 is_flow (commands.Publish page) = true
 is_flow (commands.Unpublish page) = true
-is_flow (commands.Unschedule page) = false
+is_flow (commands.Unschedule page) = true
 is_flow (commands.Lock page) = true
 is_flow (commands.Unlock page) = true
 is_flow (commands.Purge page) = true
@@ -55,4 +55,4 @@ is_flow (commands.DefineUser superuser digest) = true
 is_flow commands.DefineGroup = true
 is_flow (commands.Member user group on) = true
 is_flow (commands.Grant group page permission on) = true
-is_flow commands.Tick = false
+is_flow commands.Tick = true

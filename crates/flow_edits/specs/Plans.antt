@@ -4,9 +4,10 @@ use Rattle.site_types.specs.Content.{ContentValue}
 use Rattle.site_types.specs.declared.body.Body.{Body}
 use Rattle.site_types.specs.declared.refusal.Refusal.{Refusal}
 use Rattle.site_types.specs.declared.reply.Reply.{Reply}
-use Rattle.site_types.specs.declared.reply.Reply.TheVariants.{Done, Id}
+use Rattle.site_types.specs.declared.reply.Reply.TheVariants.{Done, Id, Ticked}
 use Rattle.site_types.specs.declared.revision.Revision.{Revision}
 use Rattle.site_model.specs.Publishing.{moderated_revision}
+use Rattle.publishing.specs.declared.due.TickPlan.{TickPlan}
 use Rattle.flat_model.specs.Made.{needs_revision}
 use Rattle.flat_model.specs.Single.{tree_change, body_change}
 use Rattle.flat_model.specs.declared.change.Change.{Change}
@@ -90,3 +91,14 @@ filing_plan revision body next_page =
     (revision.id + 1)) {
       revisions = revision ∷ [];
     })
+
+-- no store changes but the fields of these pages, and the time and the next ids are these
+abbrev pub bodies_change : List (ℕ × Body) → ℕ → ℕ → ℕ → Change
+bodies_change bodies time next_page next_revision =
+    record (tree_change Nothing time next_page next_revision) { bodies = bodies }
+
+-- the plan of a tick by what is due, which gives these pages their fields
+abbrev pub ticking_plan : TickPlan → List (ℕ × Body) → ℕ → ℕ → ℕ → Plan
+ticking_plan due bodies time next_page next_revision =
+    ending_plan (Ticked due.unpublished due.published due.dropped) []
+    (bodies_change bodies time next_page next_revision)

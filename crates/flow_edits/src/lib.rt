@@ -8,8 +8,9 @@ mod locking;
 mod opening;
 mod people;
 mod prepare;
-mod publishing;
+mod publication;
 mod purging;
 mod telling;
+mod ticking;
 
 pub use prepare::prepare_flow;

@@ -1,15 +1,16 @@
 //! Plans of locking and unlocking.
-ghost use Rattle.std.specs.Prelude.{◌≡◌, ℕ, Option, Some, None};
+ghost use Rattle.std.specs.Prelude.{ℕ, Option};
 ghost use Rattle.site_types.specs.Content.{ContentValue};
 ghost use Rattle.site_types.specs.declared.command.Command.TheVariants as commands;
 ghost use Rattle.site_model.specs.World as worlds;
 ghost use Rattle.grants.specs.Plans.{Prepares};
 ghost use Rattle.flow_edits.specs.Asked.{IsAsked};
 
-use crate::telling::{body_of, body_plan, later, no_pages};
+use crate::telling::{body_plan, kept_of, later, no_pages};
 use grants::{Fault, Plan, TreePart};
 use lost_desks::lost_by_lock;
-use site_types::{Body, Moment, PageId, Refusal, Reply, UserId};
+use publishing::{locked_body, unlocked_body};
+use site_types::{Moment, PageId, Refusal, Reply, UserId};
 use std::alloc::Global;
 
 /// The plan of locking a page, which its caller may do. It ends the page's desk if that is another
@@ -29,9 +30,7 @@ pub(crate) fn plan_lock(
         → IsAsked part.now world desk caller (commands.Lock page)
         → Prepares world desk now caller (commands.Lock page) part.now result }
 {
-    let Some(body) = body_of(&part.rows, page) else {
-        unreachable!();
-    };
+    let body = kept_of(part, page);
     if caller.get() == 0 {
         return Err(Fault::Refused(Refusal::NothingNew));
     }
@@ -56,33 +55,11 @@ pub(crate) fn plan_unlock(
         → IsAsked part.now world desk caller (commands.Unlock page)
         → Prepares world desk now caller (commands.Unlock page) part.now result }
 {
-    let Some(body) = body_of(&part.rows, page) else {
-        unreachable!();
-    };
+    let body = kept_of(part, page);
     if body.locked_by.is_none() {
         return Err(Fault::Refused(Refusal::NothingNew));
     }
     let after = unlocked_body(&body);
     let time = later(part.time, now);
     body_plan(alloc, part, page, after, time, Reply::Done, no_pages(alloc))
-}
-
-/// What is kept of a page that a user has locked.
-fn locked_body(body: &Body, user: UserId) -> Body
-    ensures { result ≡ record body.now { locked_by = Some user } }
-{
-    Body {
-        locked_by: Some(user),
-        ..*body
-    }
-}
-
-/// What is kept of a page that nobody has locked.
-fn unlocked_body(body: &Body) -> Body
-    ensures { result ≡ record body.now { locked_by = None } }
-{
-    Body {
-        locked_by: None,
-        ..*body
-    }
 }

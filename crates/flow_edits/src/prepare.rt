@@ -11,8 +11,9 @@ use crate::joining::{plan_grant, plan_member};
 use crate::locking::{plan_lock, plan_unlock};
 use crate::opening::{plan_opening, plan_shutting};
 use crate::people::{plan_group, plan_user};
-use crate::publishing::{plan_publish, plan_unpublish};
+use crate::publication::{plan_publish, plan_unpublish, plan_unschedule};
 use crate::purging::plan_purge;
+use crate::ticking::plan_tick;
 use grants::{Fault, Plan, TreePart, front};
 use site_types::{Command, Content, Moment, UserId};
 use std::alloc::Global;
@@ -72,6 +73,7 @@ fn plan_passed(
         } => plan_filing(alloc, part, *page, *go_live, *expire, caller, now, desk),
         Command::Publish { page } => plan_publish(alloc, part, *page, now),
         Command::Unpublish { page } => plan_unpublish(alloc, part, *page, now),
+        Command::Unschedule { page } => plan_unschedule(alloc, part, *page, now),
         Command::Lock { page } => plan_lock(alloc, part, *page, caller, now),
         Command::Unlock { page } => plan_unlock(alloc, part, *page, now),
         Command::Purge { page } => plan_purge(alloc, part, *page, now),
@@ -86,6 +88,7 @@ fn plan_passed(
             permission,
             on,
         } => plan_grant(alloc, part, *group, *page, *permission, *on, now),
+        Command::Tick => plan_tick(alloc, part, now),
         _ => unreachable!(),
     }
 }

@@ -8,7 +8,7 @@ ghost use Rattle.grants.specs.Plans.{Prepares};
 ghost use Rattle.flow_edits.specs.Asked.{IsAsked};
 ghost use Rattle.flow_edits.specs.Plans.{purge_of, is_taken, taken, counted};
 
-use crate::telling::{body_of, ending, later, no_pages, same_revision};
+use crate::telling::{ending, kept_of, later, no_pages, same_revision};
 use flat_model::Purge;
 use grants::{Change, Fault, Plan, TreeChange, TreePart};
 use revision_shelf::Shelf;
@@ -30,9 +30,7 @@ pub(crate) fn plan_purge(
         → IsAsked part.now world desk caller (commands.Purge page)
         → Prepares world desk now caller (commands.Purge page) part.now result }
 {
-    let Some(body) = body_of(&part.rows, page) else {
-        unreachable!();
-    };
+    let body = kept_of(part, page);
     let purge = purge_of(page, &body);
     let count = taken_by(&part.shelf, &purge);
     if count == 0 {

@@ -1,7 +1,7 @@
 //! What is kept of a page, its latest revision, and plans that change what is kept of one page.
-ghost use Rattle.std.specs.Prelude.{◌≡◌, ℕ, List, [], ◌∷◌, Option, IfOk, max, option_and_then};
+ghost use Rattle.std.specs.Prelude.{◌≡◌, ℕ, true, List, [], ◌∷◌, Option, Some, IfOk, max, option_and_then};
 ghost use Rattle.std.specs.Option.{option_copied};
-ghost use Rattle.page_tree.specs.Tree.{Forest};
+ghost use Rattle.page_tree.specs.Tree.{Forest, has_page};
 ghost use Rattle.page_tree.specs.Rows.{rows_of};
 ghost use Rattle.site_types.specs.declared.body.Body.{Body as PageBody};
 ghost use Rattle.site_model.specs.World as worlds;
@@ -26,6 +26,19 @@ pub(crate) fn body_of(rows: &Rows, page: PageId) -> Option<Body>
         Some(row) => Some(row.body),
         None => None,
     }
+}
+
+/// What is kept of a page that is there. One look-up.
+pub(crate) fn kept_of(part: &TreePart, page: PageId) -> Body
+    requires { (world : worlds.TreePart) × StandsFor part.now world
+        × (has_page page world.tree ≡ true) }
+    ensures { (world : worlds.TreePart) → StandsFor part.now world
+        → views.body_of world.tree page ≡ Some result }
+{
+    let Some(body) = body_of(&part.rows, page) else {
+        unreachable!();
+    };
+    body
 }
 
 /// The latest revision of a page, or `None` exactly if it has none. Two look-ups.

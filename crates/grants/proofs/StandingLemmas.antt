@@ -1,12 +1,15 @@
--- What is in memory stands for a world exactly where its lists are those of the world; room makes no
--- difference.
+-- What is in memory stands for a world exactly where its lists are those of the world, and what is found
+-- fast is in step with them; room makes no difference.
 use Rattle.std.proofs.Common.{◌≡◌, ◌+◌, refl, sym, ap, ◌∙◌}
 use Rattle.site_model.specs.World as worlds
 use Rattle.flat_model.specs.Flat.{people_of, lists_of}
 use Rattle.flat_model.specs.Lists.{PeopleLists, PartLists}
 use Rattle.flat_model.proofs.ListLemmas.{people_are, lists_are}
-use Rattle.grants.specs.Lists.{GrantLists, ListsStandFor}
-use Rattle.grants.specs.Standing.{seen, seen_people, IsSame, StandsFor, IsReady}
+use Rattle.grants.specs.Lists.{GrantLists, SameLists, ListsStandFor}
+use Rattle.publishing.specs.Times.{AreTimed}
+use Rattle.revision_shelf.specs.Shelf.{RevisionList}
+use Rattle.desk_pairs.specs.Pairs.{PairList}
+use Rattle.grants.specs.Standing.{seen, seen_people, InStep, SameIndexes, IsSame, StandsFor, IsReady}
 use Rattle.grants.specs.declared.part.TreePart.{TreePart}
 
 -- users, groups, memberships and grants of a world
@@ -24,10 +27,10 @@ stands_seen kept part stands =
     (people_seen kept.grants part stands.lists) (sym stands.no_tasks) (sym stands.no_workflows)
     stands.desks stands.time stands.next_page stands.next_revision
 
--- what has the lists of a world stands for it
+-- what has the lists of a world, and is in step, stands for it
 pub seen_stands : (kept : TreePart) (part : worlds.TreePart) → seen kept ≡ lists_of part →
-    StandsFor kept part
-seen_stands kept part is =
+    InStep kept → StandsFor kept part
+seen_stands kept part is in_step =
     let people : seen_people kept.grants ≡ people_of part = ap (λ (l : PartLists). l.people) is in
     record {
       pages = ap (λ (l : PartLists). l.pages) is;
@@ -44,6 +47,7 @@ seen_stands kept part is =
       time = ap (λ (l : PartLists). l.time) is;
       next_page = ap (λ (l : PartLists). l.next_page) is;
       next_revision = ap (λ (l : PartLists). l.next_revision) is;
+      in_step = in_step;
     }
 
 -- what is not changed is the same
@@ -56,6 +60,72 @@ same_itself kept = record {
   time = refl;
   next_page = refl;
   next_revision = refl;
+  indexes = record { expiries = refl; go_lives = refl; aliases = refl };
+}
+
+-- what is the same twice is the same
+pub same_both : (before mid after : TreePart) → IsSame before mid → IsSame mid after →
+    IsSame before after
+same_both before mid after one other = record {
+  pages = other.pages ∙ one.pages;
+  revisions = other.revisions ∙ one.revisions;
+  lists = record {
+    users = other.lists.users ∙ one.lists.users;
+    groups = other.lists.groups ∙ one.lists.groups;
+    members = other.lists.members ∙ one.lists.members;
+    grants = other.lists.grants ∙ one.lists.grants;
+  };
+  desks = other.desks ∙ one.desks;
+  time = other.time ∙ one.time;
+  next_page = other.next_page ∙ one.next_page;
+  next_revision = other.next_revision ∙ one.next_revision;
+  indexes = record {
+    expiries = other.indexes.expiries ∙ one.indexes.expiries;
+    go_lives = other.indexes.go_lives ∙ one.indexes.go_lives;
+    aliases = other.indexes.aliases ∙ one.indexes.aliases;
+  };
+}
+
+-- with the same users, groups, memberships and grants all is the same
+pub same_grants : (kept : TreePart) (grants : GrantLists) → SameLists kept.grants grants →
+    IsSame kept (record kept { grants = grants })
+same_grants kept grants same = record {
+  pages = refl;
+  revisions = refl;
+  lists = same;
+  desks = refl;
+  time = refl;
+  next_page = refl;
+  next_revision = refl;
+  indexes = record { expiries = refl; go_lives = refl; aliases = refl };
+}
+
+-- with other room for revisions all is the same
+pub same_shelf : (kept : TreePart) (shelf : RevisionList) → shelf.revisions ≡ kept.shelf.revisions →
+    IsSame kept (record kept { shelf = shelf })
+same_shelf kept shelf is = record {
+  pages = refl;
+  revisions = is;
+  lists = record { users = refl; groups = refl; members = refl; grants = refl };
+  desks = refl;
+  time = refl;
+  next_page = refl;
+  next_revision = refl;
+  indexes = record { expiries = refl; go_lives = refl; aliases = refl };
+}
+
+-- with other room for desks all is the same
+pub same_pairs : (kept : TreePart) (pairs : PairList) → pairs.pairs ≡ kept.desk_pairs.pairs →
+    IsSame kept (record kept { desk_pairs = pairs })
+same_pairs kept pairs is = record {
+  pages = refl;
+  revisions = refl;
+  lists = record { users = refl; groups = refl; members = refl; grants = refl };
+  desks = is;
+  time = refl;
+  next_page = refl;
+  next_revision = refl;
+  indexes = record { expiries = refl; go_lives = refl; aliases = refl };
 }
 
 -- what is the same but for room has the same lists
@@ -66,11 +136,25 @@ same_seen before after same =
     (ap (λ n. n + 1) same.lists.groups) same.lists.members same.lists.grants) refl refl same.desks
     same.time same.next_page same.next_revision
 
+-- what is in step is so with other room
+pub same_in_step : (before after : TreePart) → IsSame before after → InStep before → InStep after
+same_in_step before after same step = record {
+  timed = record {
+    expiries = λ page.
+        rw (same.indexes.expiries, same.pages, same.revisions) (step.timed.expiries page);
+    go_lives = λ page.
+        rw (same.indexes.go_lives, same.pages, same.revisions) (step.timed.go_lives page);
+  };
+  aliased = λ source alias.
+      rw (same.indexes.aliases, same.pages) (step.aliased source alias);
+}
+
 -- what stands for a world stands for it with other room
 pub same_ready : (before after : TreePart) (part : worlds.TreePart) → IsSame before after →
     IsReady before part → IsReady after part
 same_ready before after part same ready = record {
   stands = seen_stands after part (same_seen before after same
-      ∙ stands_seen before part ready.stands);
+      ∙ stands_seen before part ready.stands)
+      (same_in_step before after same ready.stands.in_step);
   reached = ready.reached;
 }

@@ -1,9 +1,14 @@
 -- How the tree part in memory stands for a world's.
-use Rattle.std.specs.Prelude.{◌≡◌, ◌+◌, []}
+use Rattle.std.specs.Prelude.{◌≡◌, ◌+◌, ℕ, List, [], Option, Some}
+use Rattle.std.specs.Option.{option_and_then}
 use Rattle.page_tree.specs.Rows.{rows_of}
+use Rattle.site_model.specs.Bodies.{same_number}
 use Rattle.site_model.specs.World as worlds
 use Rattle.site_model.specs.Reached.{IsReachedPart}
 use Rattle.flat_model.specs.Lists.{PeopleLists, PartLists}
+use Rattle.page_store.specs.Pages.{Page}
+use Rattle.publishing.specs.Times.{AreTimed, body_in}
+use Rattle.link_index.specs.Pairs.{has_pair}
 use Rattle.grants.specs.declared.part.TreePart.{TreePart}
 use Rattle.grants.specs.Lists.{GrantLists, SameLists, ListsStandFor}
 
@@ -32,6 +37,28 @@ seen kept =
       next_revision = kept.next_revision;
     }
 
+-- the source of a page, where the page is there and is an alias
+abbrev pub source_in : ℕ → List Page → Option ℕ
+source_in page pages = option_and_then (λ body. body.source) (body_in page pages)
+
+-- the pairs are those of each alias and its source
+abbrev pub AreAliases : List (ℕ × ℕ) → List Page → Type 0
+AreAliases pairs pages =
+    (source alias : ℕ) →
+    has_pair source alias pairs ≡ same_number (source_in alias pages) (Some source)
+
+-- What is found fast is in step with the rows and the revisions: the tables have the moments of the
+-- pages, and the pairs of sources and aliases are those of the pages.
+pub record InStep (kept : TreePart) : Type 0 where
+  pub timed : AreTimed kept.times kept.rows.pages kept.shelf.revisions
+  pub aliased : AreAliases kept.aliases.pairs kept.rows.pages
+
+-- what is found fast is as it was
+pub record SameIndexes (before after : TreePart) : Type 0 where
+  pub expiries : after.times.expiries.entries ≡ before.times.expiries.entries
+  pub go_lives : after.times.go_lives.entries ≡ before.times.go_lives.entries
+  pub aliases : after.aliases.pairs ≡ before.aliases.pairs
+
 -- all but the room is as it was
 pub record IsSame (before after : TreePart) : Type 0 where
   pub pages : after.rows.pages ≡ before.rows.pages
@@ -41,10 +68,11 @@ pub record IsSame (before after : TreePart) : Type 0 where
   pub time : after.time ≡ before.time
   pub next_page : after.next_page ≡ before.next_page
   pub next_revision : after.next_revision ≡ before.next_revision
+  pub indexes : SameIndexes before after
 
 -- What is in memory is what the world has: the rows of its tree, the revisions, the users, groups,
--- memberships and grants, the open desks, the time and the next ids; and the world has nothing that is
--- not kept yet.
+-- memberships and grants, the open desks, the time and the next ids; what is found fast is in step with
+-- them; and the world has nothing that is not kept yet.
 pub record StandsFor (kept : TreePart) (part : worlds.TreePart) : Type 0 where
   pub pages : kept.rows.pages ≡ rows_of part.tree
   pub revisions : kept.shelf.revisions ≡ part.revisions
@@ -55,6 +83,7 @@ pub record StandsFor (kept : TreePart) (part : worlds.TreePart) : Type 0 where
   pub time : kept.time ≡ part.time
   pub next_page : kept.next_page ≡ part.next_page
   pub next_revision : kept.next_revision ≡ part.next_revision
+  pub in_step : InStep kept
 
 -- What is in memory stands for a world that commands reach.
 pub record IsReady (kept : TreePart) (part : worlds.TreePart) : Type 0 where

@@ -21,6 +21,7 @@ mod store;
 
 pub use fault::Fault;
 pub use flat_model::{Change, PeopleChange, TreeChange};
+pub use living::is_live_page;
 pub use need::{Need, may};
 pub use part::TreePart;
 pub use passing::front;

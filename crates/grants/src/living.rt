@@ -26,7 +26,7 @@ pub(crate) fn any_live(rows: &Rows, page: PageId) -> bool
 }
 
 /// Whether a page is live. Two look-ups at most.
-pub(crate) fn is_live_page(rows: &Rows, page: PageId) -> bool
+pub fn is_live_page(rows: &Rows, page: PageId) -> bool
     ensures { (tree : Forest PageBody) → rows.now.pages ≡ rows_of tree
         → result ≡ views.is_live_page tree page }
 {

@@ -1,12 +1,15 @@
 //! The tree part of the site in memory.
 use crate::Grants;
 use desk_pairs::DeskPairs;
+use link_index::Aliases;
 use page_store::Rows;
 use revision_shelf::Shelf;
 use site_types::Moment;
+use time_table::Times;
 
 /// All of the site in memory but the texts of open desks: the rows of its pages, their revisions, who
-/// may do what, which desks are open, the time, and the next ids.
+/// may do what, which desks are open, the time, the next ids, and what is found fast by the rows and
+/// the revisions.
 #[derive(Debug, Drop)]
 pub struct TreePart {
     /// The rows of the pages.
@@ -23,4 +26,8 @@ pub struct TreePart {
     pub next_page: u32,
     /// The number of the next revision, from 1 to 4,000,000,001.
     pub next_revision: u32,
+    /// When live pages stop being live, and when scheduled revisions go live.
+    pub times: Times,
+    /// The aliases of the pages.
+    pub aliases: Aliases,
 }

@@ -1,5 +1,5 @@
 -- What the store keeps after a page got other fields.
-use Rattle.std.proofs.Common.{◌≡◌, ℕ, Bool, true, false, cond, nat_eq, ◌&&◌, List, [], ◌∷◌, IsSome, find, length, refl, ap, sym, ◌∙◌}
+use Rattle.std.proofs.Common.{◌≡◌, ℕ, Bool, true, false, cond, nat_eq, List, [], ◌∷◌, IsSome, find, length, refl, ap, sym, ◌∙◌}
 use Rattle.std.proofs.lemmas.List.{length-map}
 use Rattle.std.specs.Option.{option_map}
 use Rattle.std.specs.Str.{bytes_eq}
@@ -9,10 +9,13 @@ use Rattle.step_path.specs.Path.{IsPath}
 use Rattle.site_types.specs.Ids.{IsPageId}
 use Rattle.site_types.specs.declared.body.Body.{Body}
 use Rattle.page_store.specs.declared.stored.StoredRow.{StoredRow}
-use Rattle.page_store.specs.declared.stored.KidKey.{KidKey}
+use Rattle.page_store.specs.declared.kid_index.KidIndex.{KidIndex}
 use Rattle.page_store.specs.PageRows.{above, parent_id}
 use Rattle.page_store.specs.Pages.{Page, IsBefore, HasOtherId, HasOtherSlug, IsRootRow, StartsAtRoot, ArePages}
 use Rattle.page_store.specs.Kept.{IsKept}
+use Rattle.page_store.specs.KidIndex.{keys_of}
+use Rattle.page_store.proofs.KidIndexLemmas.{indexed_as}
+use Rattle.page_store.proofs.KeyLemmas.{keys-changed}
 use Rattle.page_store.specs.Changes.{body_changed, with_body, body_put}
 use Rattle.page_store.proofs.AllLemmas.{All-weaker, All-always}
 use Rattle.page_store.proofs.ChangeLemmas.{All-changed, EachPair-changed, find-changed, count-changed, id_of_after, ids-changed, found-changed, texts-changed}
@@ -78,8 +81,8 @@ module _ (id : ℕ) (body : Body) where
           change (λ row. refl) pages)
 
 -- A page with other fields: what the store keeps then stands for the rows with them.
-pub body_kept : (stored later : List (ℕ × StoredRow)) (order : List ℕ) (kids : List (KidKey
-    × ℕ)) (pages : List Page) (id : ℕ) (body : Body) → IsKept stored order kids pages →
+pub body_kept : (stored later : List (ℕ × StoredRow)) (order : List ℕ) (kids : KidIndex)
+    (pages : List Page) (id : ℕ) (body : Body) → IsKept stored order kids pages →
     ((other : ℕ) → lookup (nat_eq other) later ≡ cond (nat_eq id other) (option_map (body_put body)
     (lookup (nat_eq id) stored)) (lookup (nat_eq other) stored)) →
     IsKept later order kids (with_body id body pages)
@@ -93,7 +96,7 @@ body_kept stored later order kids pages id body kept stores = record {
         depth_is = is.depth_is;
         not_counted = is.not_counted;
       });
-  named = λ parent slug. kept.named parent slug ∙ sym (same_found id body (λ row. is_parent parent
-      row.parent && bytes_eq row.slug slug) (λ row. refl) pages);
+  indexed = indexed_as _ _ _ (keys_of later) (keys-changed stored later id (body_put body) stores (λ page.
+      refl)) kept.indexed;
   are_pages = are_pages-with_body id body pages kept.are_pages;
 }

@@ -1,23 +1,25 @@
 -- A new page put into what the store keeps.
-use Rattle.std.proofs.Common.{◌≡◌, ℕ, Bool, true, false, cond, nat_eq, ◌&&◌, List, [], ◌∷◌, Option, Some, None, map, find, insert, refl, ap, sym, ◌∙◌, arith, add-one}
+use Rattle.std.proofs.Common.{◌≡◌, ℕ, Bool, true, false, cond, nat_eq, List, [], ◌∷◌, Option, Some, None, map, find, insert, refl, ap, sym, ◌∙◌, arith, add-one}
 use Rattle.std.proofs.lemmas.Bool.Decides.{nat_tests}
 use Rattle.std.specs.List.{AllByRecursion}
 use Rattle.std.specs.Option.{option_map, IfSome}
-use Rattle.std.specs.Str.{bytes_eq}
 use Rattle.std.specs.Map.{lookup}
-use Rattle.page_tree.specs.Rows.{comes_before, insert_in_order, raise_count, with_kid, with_row, is_parent, row_with, kid_named}
+use Rattle.page_tree.specs.Rows.{comes_before, insert_in_order, raise_count, with_kid, with_row, is_parent, row_with}
 use Rattle.step_path.specs.Path.{steps_of}
 use Rattle.site_types.specs.Ids.{IsPageId}
 use Rattle.page_store.specs.PageRows.{parent_id, IsNewRow}
 use Rattle.page_store.specs.declared.stored.StoredRow.{StoredRow}
-use Rattle.page_store.specs.declared.stored.KidKey.{KidKey}
+use Rattle.page_store.specs.declared.kid_index.KidIndex.{KidIndex}
 use Rattle.page_store.specs.Pages.{Page}
-use Rattle.page_store.specs.Kept.{seen, kid_key, key_eq, kid_added, IsStored, IsKept}
+use Rattle.page_store.specs.Kept.{seen, kid_added, IsStored, IsKept}
+use Rattle.page_store.specs.KidIndex.{kid_key, own_key, keys_of, with_key, IsIndex}
 use Rattle.page_store.specs.Search.{leading}
 use Rattle.page_store.proofs.PathOrder.{comes_before-not_back, comes_before-other}
 use Rattle.page_store.proofs.AllLemmas.{All-raise_count, raised}
-use Rattle.page_store.proofs.InsertLemmas.{same_bytes, other_ids, all_fail_from_find, find-raise_count, find-insert_fails, find-insert_passes}
-use Rattle.page_store.proofs.AddLemmas.{CanBeAdded, parent_is_page, none_from_map, id_of_raised, raised-id, are_pages-with_row}
+use Rattle.page_store.proofs.InsertLemmas.{other_ids, all_fail_from_find, find-raise_count, find-insert_fails, find-insert_passes}
+use Rattle.page_store.proofs.KidIndexLemmas.{indexed_as}
+use Rattle.page_store.proofs.KeyLemmas.{key_below}
+use Rattle.page_store.proofs.AddLemmas.{CanBeAdded, parent_is_page, raised-id, are_pages-with_row}
 
 -- a raised count leaves the path
 raised-path : (parent : Option ℕ) (row : Page) → (raised parent row).path ≡ row.path
@@ -69,8 +71,8 @@ found_passes test (y ∷ xs) x h = by (test y) refl h (found_passes test xs x)
     by true e h more = let one : y ≡ x = cc in rw (← one) e
     by false e h more = more h
 
-module _ (stored : List (ℕ × StoredRow)) (order : List ℕ) (kids : List (KidKey
-    × ℕ)) (pages : List Page) (kept : IsKept stored order kids pages) where
+module _ (stored : List (ℕ × StoredRow)) (order : List ℕ) (kids : KidIndex) (pages : List Page)
+    (kept : IsKept stored order kids pages) where
   -- what is kept at an id has that id
   pub own_id : (id : ℕ) (page : StoredRow) → lookup (nat_eq id) stored ≡ Some page → page.row.id ≡ id
   own_id id page is =
@@ -100,15 +102,13 @@ module _ (stored : List (ℕ × StoredRow)) (order : List ℕ) (kids : List (Kid
           let differ : nat_eq p page.row.id ≡ false = rw own e in
           rw differ refl
 
-module _ (stored later : List (ℕ × StoredRow)) (order : List ℕ) (kids more_kids : List (KidKey
-    × ℕ)) (pages : List Page) (new parent : StoredRow) (p : ℕ)
+module _ (stored later : List (ℕ × StoredRow)) (order : List ℕ) (kids more_kids : KidIndex)
+    (pages : List Page) (new parent : StoredRow) (p : ℕ)
     (kept : IsKept stored order kids pages) (can : CanBeAdded pages (seen new) p) (text : IsStored new)
     (found_parent : lookup (nat_eq p) stored ≡ Some parent)
     (stores : (id : ℕ) → lookup (nat_eq id) later ≡ cond (nat_eq new.row.id id) (Some new) (cond
     (nat_eq p id) (Some (kid_added parent)) (lookup (nat_eq id) stored)))
-    (names : (key : KidKey) →
-    lookup (key_eq key) more_kids ≡ cond (key_eq (kid_key p new.row.slug) key) (Some new.row.id)
-    (lookup (key_eq key) kids)) where
+    (indexes : IsIndex more_kids (with_key new.row.id (kid_key p new.row.slug) (keys_of stored))) where
   -- all pages
   abbrev all : List Page
   all = with_row (seen new) pages
@@ -145,36 +145,19 @@ module _ (stored later : List (ℕ × StoredRow)) (order : List ℕ) (kids more_
           record { path_is = own.path_is; depth_is = own.depth_is; not_counted = own.not_counted }
       by false false = kept.texts id
 
-  -- each kid is found by its slug
-  all_named : (q : ℕ) (slug : List ℕ) → lookup (key_eq (kid_key q slug)) more_kids ≡ kid_named q slug all
-  all_named q slug = rw (names (kid_key q slug)) (by (key_eq (kid_key p new.row.slug) (kid_key q slug)) refl)
+  -- each page has the key that it had, and the new one its own
+  all_keys : (id : ℕ) →
+      keys_of later id ≡ with_key new.row.id (kid_key p new.row.slug) (keys_of stored) id
+  all_keys id = ap own_key (stores id) ∙ by (nat_eq new.row.id id) (nat_eq p id) refl
     where
-      by : (t : Bool) → key_eq (kid_key p new.row.slug) (kid_key q slug) ≡ t →
-          cond t (Some new.row.id) (lookup (key_eq (kid_key q slug)) kids) ≡ kid_named q slug all
-      by true e =
-          let same : p ≡ q = grind (arith, nat_tests) in
-          let texts : bytes_eq new.row.slug slug ≡ true = grind (arith, nat_tests) in
-          let none : kid_named q slug pages ≡ None = rw (
-            ← same,
-            ← same_bytes new.row.slug slug texts,
-          ) can.free_slug in
-          let passes : is_parent q new.parent && bytes_eq new.row.slug slug ≡ true = rw can.parent_is e in
-          let others = all_fail_from_find (λ (row : Page). is_parent q row.parent && bytes_eq
-          row.slug slug) pages (none_from_map (λ (r : Page). r.id) _ none) in
-          sym (ap (λ o. option_map (λ (r : Page). r.id) o)
-          (find-insert_passes (λ (row : Page). is_parent q row.parent && bytes_eq row.slug slug) (λ
-          row. refl) (seen new) (raise_count new.parent pages) passes
-          (All-raise_count (λ row. is_parent q row.parent && bytes_eq row.slug slug ≡ false)
-          new.parent (λ row h. h) pages others)))
-      by false e =
-          let fails : is_parent q new.parent && bytes_eq new.row.slug slug ≡ false = rw can.parent_is e in
-          kept.named q slug
-          ∙ sym (id_of_raised new.parent _)
-          ∙ sym (ap (λ o. option_map (λ (r : Page). r.id) o)
-          (find-insert_fails (λ (row : Page). is_parent q row.parent && bytes_eq row.slug slug) (λ
-          row. refl) (seen new) (raise_count new.parent pages) fails
-          ∙ find-raise_count (λ (row : Page). is_parent q row.parent && bytes_eq row.slug slug) (λ
-          row. refl) new.parent pages))
+      by : (t u : Bool) → nat_eq p id ≡ u →
+          own_key (cond t (Some new) (cond u (Some (kid_added parent)) (lookup (nat_eq id) stored))) ≡
+          cond t (Some (kid_key p new.row.slug)) (keys_of stored id)
+      by true u e = key_below new p can.parent_is
+      by false true e =
+          let same : p ≡ id = grind (arith, nat_tests) in
+          sym (ap own_key found_parent) ∙ ap (keys_of stored) same
+      by false false e = refl
 
   -- what is kept then stands for all pages
   pub kept-with_row : IsKept later (insert order (leading (λ row. comes_before row.path (seen
@@ -183,27 +166,25 @@ module _ (stored later : List (ℕ × StoredRow)) (order : List ℕ) (kids more_
     ids = ids_inserted (seen new) new.parent pages can.new_path ∙ rw kept.ids refl;
     found = all_found;
     texts = all_texts;
-    named = all_named;
+    indexed = indexed_as _ _ _ (keys_of later) all_keys indexes;
     are_pages = are_pages-with_row pages (seen new) p kept.are_pages can;
   }
 
 -- A new row below its parent: what the store keeps after the parent's count is raised and the row,
 -- its slug and its place are put in.
 pub insert_kept : (stored mid later : List (ℕ
-    × StoredRow)) (order : List ℕ) (kids more_kids : List (KidKey
-    × ℕ)) (pages : List Page) (new : StoredRow) (p : ℕ)
+    × StoredRow)) (order : List ℕ) (kids more_kids : KidIndex) (pages : List Page) (new : StoredRow) (p : ℕ)
     → IsKept stored order kids pages → IsNewRow pages new.row →
     parent_id (steps_of new.row.path) pages ≡ Some p → new.parent ≡ Some p → IsPageId new.row.id →
     new.counted ≡ false
     → ((id : ℕ) → lookup (nat_eq id) mid ≡ cond (nat_eq p id) (option_map kid_added (lookup (nat_eq
     p) stored)) (lookup (nat_eq id) stored))
     → ((id : ℕ) → lookup (nat_eq id) later ≡ cond (nat_eq new.row.id id) (Some new) (lookup (nat_eq id) mid))
-    → ((key : KidKey) → lookup (key_eq key) more_kids ≡ cond (key_eq (kid_key p new.row.slug) key)
-    (Some new.row.id) (lookup (key_eq key) kids))
+    → IsIndex more_kids (with_key new.row.id (kid_key p new.row.slug) (keys_of stored))
     → IsKept later (insert order (leading (λ row. comes_before row.path (steps_of new.row.path))
     pages) new.row.id) more_kids (with_row (seen new) pages)
 insert_kept stored mid later order kids more_kids pages new p kept is found parent fits fresh raises
-    stores names = by (lookup (nat_eq p) stored) refl
+    stores indexes = by (lookup (nat_eq p) stored) refl
   where
     can : CanBeAdded pages (seen new) p
     can = record {
@@ -230,4 +211,4 @@ insert_kept stored mid later order kids more_kids pages new p kept is found pare
           not_counted = fresh;
         }) e
         (λ id. stores id ∙ ap (λ o. cond (nat_eq new.row.id id) (Some new) o) (raises id ∙ ap (λ o.
-        cond (nat_eq p id) (option_map kid_added o) (lookup (nat_eq id) stored)) e)) names
+        cond (nat_eq p id) (option_map kid_added o) (lookup (nat_eq id) stored)) e)) indexes

@@ -1,26 +1,16 @@
 -- From a kid over its subtree to the next kid.
-use Rattle.std.proofs.Common.{◌≡◌, ℕ, suc, ◌+◌, ◌-◌, ◌<◌, ◌≤◌, Bool, true, false, cond, nat_eq, nat_lt, ◌&&◌, List, [], ◌∷◌, ◌++◌, Option, Some, None, IsSome, map, find, filter, length, take, drop, slice_get, refl, ap, sym, ◌∙◌, subst, arith, rules, add-one, length-append}
-use Prim.Native.Nat.{zero}
+use Rattle.std.proofs.Common.{◌≡◌, ℕ, suc, ◌+◌, ◌-◌, ◌<◌, ◌≤◌, true, nat_eq, List, [], ◌∷◌, Option, Some, None, IsSome, length, drop, slice_get, refl, ap, sym, ◌∙◌, subst, arith, rules, add-one}
 use Rattle.std.proofs.lemmas.Bool.Decides.{nat_tests}
-use Rattle.std.proofs.lemmas.List.{drop-drop, take-append-drop, append-nil}
-use Rattle.std.specs.List.{AllByRecursion}
+use Rattle.std.proofs.lemmas.List.{append-nil}
 use Rattle.std.specs.Option.{option_map, IfSome}
-use Rattle.std.specs.Str.{bytes_eq}
-use Rattle.page_tree.specs.Rows.{comes_before, row_with, is_parent, kids_in}
-use Rattle.step_path.specs.Path.{IsPath, BeginsWith}
-use Rattle.page_store.specs.PageRows.{above, parent_id, IsRange}
-use Rattle.page_store.specs.Pages.{Page, EachPair, IsBefore, StartsAtRoot, ArePages}
+use Rattle.page_tree.specs.Rows.{row_with, kids_in}
+use Rattle.page_store.specs.PageRows.{IsRange}
+use Rattle.page_store.specs.Pages.{Page, ArePages}
 use Rattle.page_store.specs.Search.{leading, begins}
 use Rattle.page_store.specs.KidWalk.{kids_between, IsKidWalk}
-use Rattle.page_store.proofs.PathOrder.{comes_before-self, begins-self, BeginsWith-begins, begins-BeginsWith}
-use Rattle.page_store.proofs.Leading.{leading_pass, others_fail}
-use Rattle.page_store.proofs.AllLemmas.{All-both}
-use Rattle.page_store.proofs.InsertLemmas.{same_bytes, other_ids}
+use Rattle.page_store.proofs.InsertLemmas.{other_ids}
 use Rattle.page_store.proofs.AddLemmas.{no_kids}
 use Rattle.page_store.proofs.KeptLemmas.{found_passes}
-use Rattle.page_store.proofs.SeenLemmas.{found_by_own_id, All-find}
-use Rattle.page_store.proofs.RangeLemmas.{All-at, All-drop, drop_at_place, pairs_at, below_first}
-use Rattle.page_store.proofs.WindowLemmas.{All-window, All-behind, All-take, there_is, found_at, before_at, place_before, comes_before-behind, above-append, above-cons, last_step_of, above_before, before_above, begins_same_length}
 use Rattle.page_store.proofs.KidRanges.{kids_in-skip, first_kid, kids_between-all, kids_between-next, next_within, next_kid}
 
 -- a walk at its end has no kids left

@@ -4,19 +4,18 @@ use Prim.Native.Nat.{zero}
 use Rattle.std.proofs.lemmas.Bool.Decides.{nat_tests}
 use Rattle.std.proofs.lemmas.List.{drop-drop, take-append-drop, append-nil}
 use Rattle.std.specs.List.{AllByRecursion}
-use Rattle.std.specs.Option.{option_map, IfSome}
+use Rattle.std.specs.Option.{option_map}
 use Rattle.std.specs.Str.{bytes_eq}
 use Rattle.page_tree.specs.Rows.{comes_before, row_with, is_parent, kids_in}
 use Rattle.step_path.specs.Path.{IsPath, BeginsWith}
 use Rattle.page_store.specs.PageRows.{above, parent_id, IsRange}
 use Rattle.page_store.specs.Pages.{Page, EachPair, IsBefore, StartsAtRoot, ArePages}
 use Rattle.page_store.specs.Search.{leading, begins}
-use Rattle.page_store.specs.KidWalk.{kids_between, IsKidWalk}
+use Rattle.page_store.specs.KidWalk.{kids_between}
 use Rattle.page_store.proofs.PathOrder.{comes_before-self, begins-self, BeginsWith-begins, begins-BeginsWith}
 use Rattle.page_store.proofs.Leading.{leading_pass, others_fail}
 use Rattle.page_store.proofs.AllLemmas.{All-both}
-use Rattle.page_store.proofs.InsertLemmas.{same_bytes, other_ids}
-use Rattle.page_store.proofs.AddLemmas.{no_kids}
+use Rattle.page_store.proofs.InsertLemmas.{same_bytes}
 use Rattle.page_store.proofs.KeptLemmas.{found_passes}
 use Rattle.page_store.proofs.SeenLemmas.{found_by_own_id, All-find}
 use Rattle.page_store.proofs.RangeLemmas.{All-at, All-drop, drop_at_place, pairs_at, below_first}

@@ -4,6 +4,8 @@ pub mod AllLemmas
 pub mod InsertLemmas
 pub mod AddLemmas
 pub mod SeenLemmas
+pub mod KidIndexLemmas
+pub mod FindLemmas
 pub mod KeptLemmas
 pub mod RootLemmas
 pub mod RangeLemmas
@@ -13,6 +15,8 @@ pub mod KidLemmas
 pub mod ChangeLemmas
 pub mod BodyLemmas
 pub mod SlugRows
+pub mod KeyLemmas
+pub mod KidFoundLemmas
 pub mod SlugLemmas
 pub mod CutLemmas
 pub mod TakenLemmas

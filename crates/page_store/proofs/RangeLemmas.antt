@@ -10,7 +10,7 @@ use Rattle.std.specs.Map.{lookup}
 use Rattle.page_tree.specs.Rows.{comes_before, row_with}
 use Rattle.step_path.specs.Path.{steps_of, BeginsWith}
 use Rattle.page_store.specs.declared.stored.StoredRow.{StoredRow}
-use Rattle.page_store.specs.declared.stored.KidKey.{KidKey}
+use Rattle.page_store.specs.declared.kid_index.KidIndex.{KidIndex}
 use Rattle.page_store.specs.declared.search.Front.TheVariants.{Below}
 use Rattle.page_store.specs.PageRows.{IsRange}
 use Rattle.page_store.specs.Pages.{Page, EachPair, IsBefore}
@@ -158,8 +158,8 @@ read_at [] n x within is = absurd (omega arith)
 read_at (y ∷ xs) zero x within is = ap Some (sym is)
 read_at (y ∷ xs) (suc n) x within is = read_at xs n x (omega arith) is
 
-module _ (stored : List (ℕ × StoredRow)) (order : List ℕ) (kids : List (KidKey
-    × ℕ)) (pages : List Page) (kept : IsKept stored order kids pages) where
+module _ (stored : List (ℕ × StoredRow)) (order : List ℕ) (kids : KidIndex) (pages : List Page)
+    (kept : IsKept stored order kids pages) where
   -- what is kept of the page at a place
   pub kept_at : (place : ℕ) (row : Page) → slice_get pages place ≡ Some row →
       option_map seen (lookup (nat_eq row.id) stored) ≡ Some row

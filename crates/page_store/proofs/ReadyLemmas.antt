@@ -3,39 +3,42 @@ use Rattle.std.proofs.Common.{◌≡◌, ℕ, ◌+◌, ◌-◌, nat_eq, List, Op
 use Rattle.std.specs.Option.{option_map}
 use Rattle.std.specs.Map.{lookup}
 use Rattle.page_store.specs.declared.stored.StoredRow.{StoredRow}
-use Rattle.page_store.specs.declared.stored.KidKey.{KidKey}
+use Rattle.page_store.specs.declared.kid_index.KidIndex.{KidIndex}
 use Rattle.page_store.specs.Pages.{Page, ArePages}
 use Rattle.page_store.specs.Kept.{rows_seen, IsKept}
+use Rattle.page_store.specs.KidIndex.{keys_of, IsIndex}
+use Rattle.page_store.proofs.KidIndexLemmas.{indexed_as}
+use Rattle.page_store.proofs.KeyLemmas.{keys-listed}
 use Rattle.page_store.specs.Relabelling.{relabelled_rows, first_moved, KeepParents}
-use Rattle.page_store.specs.Settling.{items_moved, path_put, url_put, listed_put, settled, IsListed, CanSettle, AreNamed}
+use Rattle.page_store.specs.Settling.{items_moved, path_put, url_put, listed_put, settled, IsListed, CanSettle}
 use Rattle.page_store.proofs.SeenLemmas.{rows_seen-ids}
 use Rattle.page_store.proofs.ListedLemmas.{own_ids_listed}
-use Rattle.page_store.proofs.RelabelLemmas.{top_moved, listed, named_listed, is_listed, can_settle}
+use Rattle.page_store.proofs.RelabelLemmas.{top_moved, listed, is_listed, can_settle}
 
 -- What is kept may be settled, and the rows are these then.
-pub record IsReady (stored : List (ℕ × StoredRow)) (order : List ℕ) (kids : List (KidKey × ℕ)) (top :
+pub record IsReady (stored : List (ℕ × StoredRow)) (order : List ℕ) (kids : KidIndex) (top :
     Option ℕ) (then : List Page) : Type 0 where
   pub listed_rows : IsListed stored order (rows_seen stored order)
   pub can : CanSettle top (rows_seen stored order)
-  pub named : AreNamed kids (rows_seen stored order)
+  pub indexed : IsIndex kids (keys_of stored)
   pub settled_rows : settled (rows_seen stored order) ≡ then
 
 -- rows that are what is seen are ready
-ready_rows : (stored : List (ℕ × StoredRow)) (order : List ℕ) (kids : List (KidKey × ℕ)) (top :
+ready_rows : (stored : List (ℕ × StoredRow)) (order : List ℕ) (kids : KidIndex) (top :
     Option ℕ) (rows : List Page) → IsListed stored order rows → CanSettle top rows →
-    AreNamed kids rows → IsReady stored order kids top (settled rows)
-ready_rows stored order kids top rows is can named =
+    IsIndex kids (keys_of stored) → IsReady stored order kids top (settled rows)
+ready_rows stored order kids top rows is can index =
     let same : rows_seen stored order ≡ rows =
     rows_seen-ids stored order rows is.ids is.found (own_ids_listed stored order rows is) in
     record {
       listed_rows = subst (IsListed stored order) (sym same) is;
       can = subst (CanSettle top) (sym same) can;
-      named = subst (AreNamed kids) (sym same) named;
+      indexed = index;
       settled_rows = ap settled same;
     }
 
-module _ (stored later : List (ℕ × StoredRow)) (order moved shown : List ℕ) (kids : List (KidKey
-    × ℕ)) (pages : List Page) (from n to : ℕ) (paths urls : List (ℕ × List ℕ)) (top : Option ℕ) where
+module _ (stored later : List (ℕ × StoredRow)) (order moved shown : List ℕ) (kids : KidIndex)
+    (pages : List Page) (from n to : ℕ) (paths urls : List (ℕ × List ℕ)) (top : Option ℕ) where
   -- after the rows are moved and all listings put what is kept is ready
   pub ready : IsKept stored order kids (rows_seen stored order) → rows_seen stored order ≡ pages →
       ArePages (relabelled_rows from n to paths urls pages) →
@@ -58,4 +61,4 @@ module _ (stored later : List (ℕ × StoredRow)) (order moved shown : List ℕ)
       later puts))
       (subst (λ (o : Option ℕ). CanSettle o (listed stored order kids pages kept_pages from n to paths
       urls)) (sym first) (can_settle stored order kids pages kept_pages from n to paths urls are keeps))
-      (named_listed stored order kids pages kept_pages from n to paths urls)
+      (indexed_as _ _ _ (keys_of later) (keys-listed stored later paths urls puts) kept.indexed)

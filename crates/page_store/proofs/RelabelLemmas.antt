@@ -1,26 +1,25 @@
 -- What the store keeps after rows were moved and the listed paths and URLs were put.
-use Rattle.std.proofs.Common.{◌≡◌, ℕ, ◌↔◌, true, false, nat_eq, ◌&&◌, List, [], ◌∷◌, Option, Some, None, IsSome, map, find, length, take, drop, slice_get, unwrap_or, refl, ap, sym, ◌∙◌, subst, arith, rules}
+use Rattle.std.proofs.Common.{◌≡◌, ℕ, ◌↔◌, true, false, nat_eq, List, [], ◌∷◌, Option, Some, None, IsSome, map, length, take, drop, slice_get, unwrap_or, refl, ap, sym, ◌∙◌, subst, arith, rules}
 use Rattle.std.proofs.lemmas.Bool.Decides.{nat_tests}
 use Rattle.std.proofs.lemmas.List.{length-map}
 use Rattle.std.proofs.lemmas.Option.{slice_get-map}
 use Rattle.std.specs.List.{AllByRecursion, take-map, drop-map}
 use Rattle.std.specs.Option.{option_map, IfSome}
-use Rattle.std.specs.Str.{bytes_eq}
 use Rattle.std.specs.Map.{lookup}
 use Rattle.page_tree.specs.Rows.{is_parent, row_with, kids_in}
 use Rattle.step_path.specs.Path.{IsPath, steps_of}
 use Rattle.step_path.proofs.PathLemmas.{steps_of-path_text, IsPathText-path_text}
 use Rattle.page_store.specs.declared.stored.StoredRow.{StoredRow}
-use Rattle.page_store.specs.declared.stored.KidKey.{KidKey}
+use Rattle.page_store.specs.declared.kid_index.KidIndex.{KidIndex}
 use Rattle.page_store.specs.PageRows.{parent_id}
 use Rattle.page_store.specs.Pages.{Page, EachPair, HasOtherId, HasOtherSlug, StartsAtRoot, ArePages}
 use Rattle.page_store.specs.Kept.{seen, IsStored, IsKept}
 use Rattle.page_store.specs.Relabelling.{range_moved, relisted, reparented, recounted, first_moved, KeepParents}
-use Rattle.page_store.specs.Settling.{items_moved, path_put, url_put, listed_put, settled, IsListed, CanSettle, AreNamed}
+use Rattle.page_store.specs.Settling.{items_moved, path_put, url_put, listed_put, settled, IsListed, CanSettle}
 use Rattle.page_store.proofs.AllLemmas.{All-weaker, All-both, All-map}
 use Rattle.page_store.proofs.SeenLemmas.{All-find, found_by_own_id}
 use Rattle.page_store.proofs.KeptLemmas.{found_passes, own_id}
-use Rattle.page_store.proofs.SlugLemmas.{kid_passes, others_differ}
+use Rattle.page_store.proofs.SlugLemmas.{others_differ}
 use Rattle.page_store.proofs.RemoveLemmas.{EachPair-weaker}
 use Rattle.page_store.proofs.MapLemmas.{All-unmap, find-map, count-map}
 use Rattle.page_store.proofs.MovedLemmas.{All-moved, map-moved, passing-moved, find-moved, at_most_one}
@@ -51,8 +50,8 @@ top_moved from n order pages ids =
     ∙ ap (λ xs. slice_get xs 0) (take-map (λ (row : Page). row.id) n (drop from pages))
     ∙ slice_get-map (λ (row : Page). row.id) (take n (drop from pages)) 0
 
-module _ (stored : List (ℕ × StoredRow)) (order : List ℕ) (kids : List (KidKey
-    × ℕ)) (pages : List Page) (kept : IsKept stored order kids pages) (from n to : ℕ)
+module _ (stored : List (ℕ × StoredRow)) (order : List ℕ) (kids : KidIndex) (pages : List Page)
+    (kept : IsKept stored order kids pages) (from n to : ℕ)
     (paths urls : List (ℕ × List ℕ)) where
   -- the rows with the listed paths and URLs, moved
   abbrev pub listed : List Page
@@ -93,27 +92,6 @@ module _ (stored : List (ℕ × StoredRow)) (order : List ℕ) (kids : List (Kid
       ∙ count-map (λ (r : Page). is_parent q r.parent) (relisted paths urls) (range_moved from n to pages)
       ∙ passing-moved (λ (r : Page). is_parent q r.parent) from n to pages
       ∙ sym (length-map _ (λ (r : Page). r.id))
-
-  -- the kids by slug are those of the parents that are kept
-  pub named_listed : AreNamed kids listed
-  named_listed q text =
-      kept.named q text
-      ∙ ap (option_map (λ (r : Page). r.id)) (sym (find-moved (λ (r : Page). is_parent q r.parent &&
-      bytes_eq r.slug text) from n to pages (at_most_one (λ (r : Page). is_parent q r.parent &&
-      bytes_eq r.slug text) pages (EachPair-weaker HasOtherSlug (λ one later. is_parent q one.parent &&
-      bytes_eq one.slug text ≡ true → is_parent q later.parent && bytes_eq later.slug text ≡ true → ⊥)
-      (λ one later differ e f. let first = kid_passes q text one.parent one.slug e in let second =
-      kid_passes q text later.parent later.slug f in differ (second.0 ∙ sym first.0) (second.1 ∙ sym
-      first.1)) pages kept.are_pages.own_slugs))))
-      ∙ same_id (find (λ (r : Page). is_parent q r.parent && bytes_eq r.slug text) (range_moved from n
-      to pages))
-      ∙ ap (option_map (λ (r : Page). r.id)) (sym (find-map (λ (r : Page). is_parent q r.parent &&
-      bytes_eq r.slug text) (relisted paths urls) (range_moved from n to pages)))
-    where
-      same_id : (o : Option Page) → option_map (λ (r : Page). r.id) o ≡ option_map (λ (r : Page). r.id)
-          (option_map (relisted paths urls) o)
-      same_id None = refl
-      same_id (Some row) = refl
 
   module _ (are : ArePages (settled listed)) where
     -- what is listed for a page is a path

@@ -1,5 +1,5 @@
 -- The rows of a new tree.
-use Rattle.std.proofs.Common.{◌≡◌, ℕ, Bool, true, false, cond, nat_eq, List, [], ◌∷◌, Some, None, refl, subst, arith}
+use Rattle.std.proofs.Common.{◌≡◌, ℕ, Bool, true, false, cond, nat_eq, List, [], ◌∷◌, Some, None, refl, ap, subst, arith}
 use Rattle.std.proofs.lemmas.Bool.Decides.{nat_tests}
 use Rattle.std.specs.Option.{option_map, IfSome}
 use Rattle.page_tree.specs.Rows.{row_with}
@@ -8,6 +8,9 @@ use Rattle.step_path.proofs.PathLemmas.{IsPathText-path_text, steps_of-path_text
 use Rattle.page_store.specs.declared.stored.StoredRow.{StoredRow}
 use Rattle.page_store.specs.PageRows.{root_rows}
 use Rattle.page_store.specs.Pages.{Page, ArePages}
+use Rattle.page_store.specs.KidIndex.{kid_key, own_key, keys_of}
+use Rattle.page_store.proofs.KidIndexLemmas.{indexed_none}
+use Rattle.page_store.specs.declared.kid_index.KidIndex.{KidIndex}
 use Rattle.page_store.specs.Kept.{seen, IsStored, IsKept, IsRootPage}
 
 -- the path of the root is a path
@@ -59,14 +62,15 @@ root_tests a id is = by (nat_eq a id) (nat_eq id 1) refl refl
     by false false e f = refl
 
 -- what is kept of the root stands for the rows of a new tree
-pub root_kept : (page : StoredRow) → IsRootPage page → IsKept ((1, page) ∷ []) (1 ∷ []) [] root_rows
-root_kept page is = record {
+pub root_kept : (page : StoredRow) (kids : KidIndex) → IsRootPage page → kids.keys.entries ≡ [] →
+    kids.clashes.items ≡ [] → IsKept ((1, page) ∷ []) (1 ∷ []) kids root_rows
+root_kept page kids is no_keys no_clashes = record {
   ids = refl;
   found = λ id. subst (λ (rows : List Page). row_with id rows ≡ option_map seen (cond (nat_eq id 1)
       (Some page) None)) (seen_root page is) (rw (root_tests page.row.id id is.id_is) (by (nat_eq id
       1)));
   texts = λ id. text (nat_eq id 1);
-  named = λ parent slug. refl;
+  indexed = rw (no_keys, no_clashes) (indexed_none (keys_of ((1, page) ∷ [])) (λ id. key (nat_eq id 1)));
   are_pages = root_pages;
 }
   where
@@ -77,3 +81,7 @@ root_kept page is = record {
     text : (t : Bool) → IfSome (cond t (Some page) None) IsStored
     text true = stored_root page is
     text false = tt
+
+    key : (t : Bool) → own_key (cond t (Some page) None) ≡ None
+    key true = ap (option_map (λ parent. kid_key parent page.row.slug)) is.no_parent
+    key false = refl

@@ -11,7 +11,7 @@ use Rattle.page_tree.specs.Rows.{comes_before, row_with, is_parent, kids_in}
 use Rattle.step_path.specs.Path.{IsPath, steps_of}
 use Rattle.site_types.specs.Ids.{IsPageId}
 use Rattle.page_store.specs.declared.stored.StoredRow.{StoredRow}
-use Rattle.page_store.specs.declared.stored.KidKey.{KidKey}
+use Rattle.page_store.specs.declared.kid_index.KidIndex.{KidIndex}
 use Rattle.page_store.specs.declared.search.Front.{Front}
 use Rattle.page_store.specs.declared.search.Front.TheVariants.{Before}
 use Rattle.page_store.specs.PageRows.{above, parent_id}
@@ -100,8 +100,8 @@ module _ (stored : List (ℕ × StoredRow)) (order : List ℕ) (pages : List Pag
       rw (← ids) (leading-map (λ (row : Page). row.id) (is_front front path stored) (λ row.
       front_test front path row.path) pages (fronts_of_ids front path))
 
-module _ (stored : List (ℕ × StoredRow)) (order : List ℕ) (kids : List (KidKey
-    × ℕ)) (pages : List Page) (kept : IsKept stored order kids pages) where
+module _ (stored : List (ℕ × StoredRow)) (order : List ℕ) (kids : KidIndex) (pages : List Page)
+    (kept : IsKept stored order kids pages) where
   -- each row is what is kept of its id
   pub kept_of_own_id : AllByRecursion (λ row. option_map seen (lookup (nat_eq row.id) stored) ≡ Some
       row) pages
@@ -270,8 +270,8 @@ first_of_ids stored order pages ids found own_ids in_order path =
     comes_before row.path path) pages (fronts_of_ids stored order pages ids found own_ids Before
     path) (before_first path pages in_order))
 
-module _ (stored : List (ℕ × StoredRow)) (order : List ℕ) (kids : List (KidKey
-    × ℕ)) (pages : List Page) (kept : IsKept stored order kids pages) where
+module _ (stored : List (ℕ × StoredRow)) (order : List ℕ) (kids : KidIndex) (pages : List Page)
+    (kept : IsKept stored order kids pages) where
   -- how many pages stand in front of a path
   pub place_found : (front : Front) (path : List ℕ) →
       leading (is_front front path stored) order ≡ leading (λ row. front_test front path row.path)

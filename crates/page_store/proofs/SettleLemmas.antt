@@ -1,24 +1,20 @@
 -- Rows that are settled: where no page has another parent they stay, and else one page has another
 -- parent, and the child counts of two are others.
-use Rattle.std.proofs.Common.{◌≡◌, ℕ, ◌+◌, ◌-◌, Bool, true, false, cond, nat_eq, ◌&&◌, List, [], ◌∷◌, Option, Some, None, map, find, filter, length, refl, ap, sym, ◌∙◌, arith}
+use Rattle.std.proofs.Common.{◌≡◌, ℕ, ◌+◌, ◌-◌, Bool, true, false, cond, nat_eq, List, [], ◌∷◌, Option, Some, map, filter, length, refl, ap, sym, ◌∙◌, arith}
 use Rattle.std.proofs.lemmas.Bool.Decides.{nat_tests}
 use Rattle.std.proofs.lemmas.List.{length-map}
 use Rattle.std.specs.List.{AllByRecursion}
 use Rattle.std.specs.Option.{option_map}
-use Rattle.std.specs.Str.{bytes_eq}
-use Rattle.page_tree.specs.Rows.{is_parent, row_with, kid_named, kids_in, with_kid}
+use Rattle.page_tree.specs.Rows.{is_parent, row_with, kids_in, with_kid}
 use Rattle.page_store.specs.PageRows.{parent_id}
 use Rattle.page_store.specs.Pages.{Page, EachPair, HasOtherId, HasOtherSlug, ArePages}
-use Rattle.page_store.specs.Kept.{kid_key, key_eq}
 use Rattle.page_store.specs.Changes.{changed, without_kid}
 use Rattle.page_store.specs.Relabelling.{reparented, recounted}
 use Rattle.page_store.specs.Settling.{settled, under, CanSettle}
-use Rattle.page_store.proofs.AllLemmas.{All-weaker, All-both, All-always, All-map}
-use Rattle.page_store.proofs.InsertLemmas.{same_bytes}
-use Rattle.page_store.proofs.AddLemmas.{find_none}
+use Rattle.page_store.proofs.AllLemmas.{All-weaker, All-both}
 use Rattle.page_store.proofs.KeptLemmas.{found_passes}
-use Rattle.page_store.proofs.ChangeLemmas.{after, All-changed, find-changed, id_of_after}
-use Rattle.page_store.proofs.SlugLemmas.{kid_fails, others_differ, same_row, find-changed_one}
+use Rattle.page_store.proofs.ChangeLemmas.{after, All-changed}
+use Rattle.page_store.proofs.SlugLemmas.{others_differ, same_row}
 use Rattle.page_store.proofs.MapLemmas.{All-unmap, find-map, map-equal, map-same, nat_eq-flip}
 
 -- rows with their parents and their child counts are settled
@@ -251,85 +247,3 @@ module _ (rows : List Page) (top p to : ℕ) (row : Page) (can : CanSettle (Some
       All-weaker (λ r. nat_eq r.id top ≡ false → HasOtherSlug row r) (λ r. nat_eq r.id top ≡ false →
       r.parent ≡ Some p → r.slug ≡ row.slug → ⊥) (λ r h other parent text. h other (parent ∙ sym below)
       text) rows (can.apart top row found)
-
-  -- a kid is found by its slug as before the counts were changed
-  kid_counted : (q : ℕ) (text : List ℕ) → kid_named q text counted ≡ kid_named q text put_under
-  kid_counted q text =
-      same to with_kid (λ r. refl) (λ r. refl) (changed p without_kid put_under)
-      ∙ same p without_kid (λ r. refl) (λ r. refl) put_under
-    where
-      same : (id : ℕ) (change : Page → Page) → ((r : Page) → (change r).id ≡ r.id) →
-          ((r : Page) → (is_parent q (change r).parent && bytes_eq (change r).slug text) ≡ (is_parent q
-          r.parent && bytes_eq r.slug text)) → (rs : List Page) →
-          kid_named q text (changed id change rs) ≡ kid_named q text rs
-      same id change ids keeps rs =
-          ap (λ o. option_map (λ (r : Page). r.id) o) (find-changed (λ (r : Page). is_parent q r.parent
-          && bytes_eq r.slug text) id change rs (All-always (λ r. nat_eq r.id id ≡ true → (is_parent q
-          (change r).parent && bytes_eq (change r).slug text) ≡ (is_parent q r.parent && bytes_eq r.slug
-          text)) (λ r e. keeps r) rs))
-          ∙ id_of_after id change ids (find (λ (r : Page). is_parent q r.parent && bytes_eq r.slug text)
-          rs)
-
-  -- each kid is found by its slug
-  pub named_then : ArePages (settled rows) → (q : ℕ) (text : List ℕ) →
-      cond (key_eq (kid_key to row.slug) (kid_key q text)) (Some top) (cond (key_eq (kid_key p
-      row.slug) (kid_key q text)) None (kid_named q text rows)) ≡ kid_named q text counted
-  named_then are q text =
-      by (key_eq (kid_key to row.slug) (kid_key q text)) (key_eq (kid_key p row.slug) (kid_key q
-      text)) refl refl ∙ sym (kid_counted q text)
-    where
-      own_id : row.id ≡ top
-      own_id =
-          let test : nat_eq row.id top ≡ true = found_passes (λ (r : Page). nat_eq r.id top) rows row
-          found in grind (arith, nat_tests)
-
-      -- the page itself, as a kid of the old parent
-      keyed : (t : Bool) → key_eq (kid_key p row.slug) (kid_key q text) ≡ t →
-          (is_parent q row.parent && bytes_eq row.slug text) ≡ t
-      keyed t e = rw below e
-
-      none_found : key_eq (kid_key to row.slug) (kid_key q text) ≡ false →
-          key_eq (kid_key p row.slug) (kid_key q text) ≡ true →
-          find (λ (r : Page). is_parent q r.parent && bytes_eq r.slug text) put_under ≡ None
-      none_found e f =
-          let same : p ≡ q = grind (arith, nat_tests) in
-          let texts : row.slug ≡ text = same_bytes row.slug text (grind (arith, nat_tests)) in
-          find_none (λ (r : Page). is_parent q r.parent && bytes_eq r.slug text) put_under
-          (All-map (λ r. (is_parent q r.parent && bytes_eq r.slug text) ≡ false) (after top (under to))
-          rows (All-both (λ r. nat_eq r.id top ≡ false → r.parent ≡ Some p → r.slug ≡ row.slug → ⊥) (λ
-          r. nat_eq r.id top ≡ true → r ≡ row) (λ r. (let out = after top (under to) r in (is_parent q
-          out.parent && bytes_eq out.slug text) ≡ false)) (λ r apart is. pick r apart is same texts
-          (nat_eq r.id top) refl) rows others_apart (same_row top rows row own found)))
-        where
-          pick : (r : Page) → (nat_eq r.id top ≡ false → r.parent ≡ Some p → r.slug ≡ row.slug → ⊥) →
-              (nat_eq r.id top ≡ true → r ≡ row) → p ≡ q → row.slug ≡ text → (t : Bool) →
-              nat_eq r.id top ≡ t → (let out = cond t (under to r) r in (is_parent q out.parent &&
-              bytes_eq out.slug text) ≡ false)
-          pick r apart is same texts true g =
-              let slug : r.slug ≡ row.slug = ap (λ (s : Page). s.slug) (is g) in rw slug e
-          pick r apart is same texts false g =
-              kid_fails q text r.parent r.slug (λ h k. apart g (h ∙ ap Some (sym same)) (k ∙ sym texts))
-
-      by : (t u : Bool) → key_eq (kid_key to row.slug) (kid_key q text) ≡ t →
-          key_eq (kid_key p row.slug) (kid_key q text) ≡ u →
-          cond t (Some top) (cond u None (kid_named q text rows)) ≡ kid_named q text put_under
-      by true u e f =
-          let same : to ≡ q = grind (arith, nat_tests) in
-          let texts : row.slug ≡ text = same_bytes row.slug text (grind (arith, nat_tests)) in
-          let one = find-changed_one (λ (r : Page). is_parent q r.parent && bytes_eq r.slug text) top
-          (under to) rows row found e
-          (All-weaker (λ r. nat_eq r.id top ≡ false → r.parent ≡ Some to → r.slug ≡ row.slug → ⊥) (λ r.
-          nat_eq r.id top ≡ false → (is_parent q r.parent && bytes_eq r.slug text) ≡ false) (λ r frees
-          other. kid_fails q text r.parent r.slug (λ h k. frees other (h ∙ ap Some (sym same)) (k ∙ sym
-          texts))) rows (others_free are)) in
-          ap Some (sym own_id) ∙ sym (ap (λ o. option_map (λ (r : Page). r.id) o) one)
-      by false true e f = sym (ap (λ o. option_map (λ (r : Page). r.id) o) (none_found e f))
-      by false false e f =
-          sym (ap (λ o. option_map (λ (r : Page). r.id) o) (find-changed (λ (r : Page). is_parent q
-          r.parent && bytes_eq r.slug text) top (under to) rows
-          (All-weaker (λ r. nat_eq r.id top ≡ true → r ≡ row) (λ r. nat_eq r.id top ≡ true →
-          (is_parent q (under to r).parent && bytes_eq (under to r).slug text) ≡ (is_parent q r.parent &&
-          bytes_eq r.slug text)) (λ r is test. rw (is test) (e ∙ sym (keyed false f))) rows (same_row
-          top rows row own found)))
-          ∙ id_of_after top (under to) (λ r. refl) (find (λ (r : Page). is_parent q r.parent && bytes_eq
-          r.slug text) rows))

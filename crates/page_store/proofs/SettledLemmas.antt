@@ -5,25 +5,29 @@ use Rattle.std.proofs.lemmas.List.{length-map}
 use Rattle.std.specs.List.{AllByRecursion}
 use Rattle.std.specs.Option.{option_map, option_and_then, IfSome}
 use Rattle.std.specs.Map.{lookup}
-use Rattle.page_tree.specs.Rows.{is_parent, row_with, kid_named, kids_in, with_kid}
+use Rattle.page_tree.specs.Rows.{is_parent, row_with, kids_in, with_kid}
 use Rattle.page_store.specs.declared.stored.StoredRow.{StoredRow}
-use Rattle.page_store.specs.declared.stored.KidKey.{KidKey}
+use Rattle.page_store.specs.declared.kid_index.KidIndex.{KidIndex}
+use Rattle.page_store.specs.declared.kid_index.KidKey.{KidKey}
 use Rattle.page_store.specs.PageRows.{parent_id}
 use Rattle.page_store.specs.Pages.{Page, ArePages}
-use Rattle.page_store.specs.Kept.{seen, kid_key, key_eq, kid_added, IsStored, IsKept}
-use Rattle.page_store.specs.Changes.{changed, without_kid, kid_taken, own_key}
+use Rattle.page_store.specs.Kept.{seen, kid_added, IsStored, IsKept}
+use Rattle.page_store.specs.KidIndex.{kid_key, own_key, keys_of, with_key, without_key, IsIndex}
+use Rattle.page_store.proofs.KidIndexLemmas.{indexed_as}
+use Rattle.page_store.proofs.KeyLemmas.{keys-changed, keys-moved, key_below, key_of_row}
+use Rattle.page_store.specs.Changes.{changed, without_kid, kid_taken}
 use Rattle.page_store.specs.Relabelling.{reparented, recounted}
-use Rattle.page_store.specs.Settling.{settled, under, parent_put, IsListed, CanSettle, AreNamed}
+use Rattle.page_store.specs.Settling.{settled, under, parent_put, IsListed, CanSettle}
 use Rattle.page_store.proofs.AllLemmas.{All-weaker, All-both}
 use Rattle.page_store.proofs.SeenLemmas.{All-find, kept_of_ids, few_pages, length-filter-le}
 use Rattle.page_store.proofs.ChangeLemmas.{ids-changed, found-changed, texts-changed}
-use Rattle.page_store.proofs.SlugLemmas.{same_row, key_of_row}
-use Rattle.page_store.proofs.SettleLemmas.{settled_same, settled_is, named_then, counted}
+use Rattle.page_store.proofs.SlugLemmas.{same_row}
+use Rattle.page_store.proofs.SettleLemmas.{settled_same, settled_is, counted}
 use Rattle.page_store.proofs.ListedLemmas.{own_ids_listed, found_listed, rooted_listed}
 
 module _ (stored : List (ℕ × StoredRow)) (order : List ℕ) (rows : List Page)
     (listed : IsListed stored order rows) where
-  module _ (kids : List (KidKey × ℕ)) (named : AreNamed kids rows) where
+  module _ (kids : KidIndex) (index : IsIndex kids (keys_of stored)) where
     -- where each page has the parent that it is to have nothing changes
     pub settle_same : (top : Option ℕ) → CanSettle top rows →
         AllByRecursion (λ row. top ≡ Some row.id → row.parent ≡ parent_id row.path rows) rows →
@@ -33,7 +37,7 @@ module _ (stored : List (ℕ × StoredRow)) (order : List ℕ) (rows : List Page
           ids = listed.ids;
           found = listed.found;
           texts = listed.texts;
-          named = named;
+          indexed = index;
           are_pages = subst ArePages same listed.are_pages;
         })
       where
@@ -125,9 +129,9 @@ module _ (stored : List (ℕ × StoredRow)) (order : List ℕ) (rows : List Page
         below_old : row.parent ≡ Some old.parent
         below_old = (key_of_row (lookup (nat_eq top) stored) page_there.0 old page_there.1 key).0
 
-        -- its slug
-        slug_old : row.slug ≡ old.slug
-        slug_old = (key_of_row (lookup (nat_eq top) stored) page_there.0 old page_there.1 key).1
+        -- its key
+        key_old : kid_key old.parent row.slug ≡ old
+        key_old = (key_of_row (lookup (nat_eq top) stored) page_there.0 old page_there.1 key).1
 
         -- there is a page above its path
         pub settle_there : IsSome (option_and_then (λ row. parent_id row.path rows) (row_with top rows))
@@ -212,18 +216,21 @@ module _ (stored : List (ℕ × StoredRow)) (order : List ℕ) (rows : List Page
                 other true e few = absurd (differ (grind (arith, nat_tests)))
                 other false e few = few
 
+            -- a key below the new parent
+            abbrev key_under : KidKey → KidKey
+            key_under key = record { parent = to; digest = key.digest }
+
+            -- the page's own there
+            abbrev pub new_key : KidKey
+            new_key = key_under old
+
             -- A page below another parent: what the store keeps then stands for the settled rows.
-            pub settle_kept : (later : List (ℕ × StoredRow)) (fewer more : List (KidKey × ℕ)) (copy :
-                List ℕ) →
+            pub settle_kept : (later : List (ℕ × StoredRow)) (more : KidIndex) →
                 ((q : ℕ) → lookup (nat_eq q) later ≡ cond (nat_eq to q) (option_map kid_added (lookup
                 (nat_eq to) less)) (lookup (nat_eq q) less)) →
-                copy ≡ old.slug →
-                ((key : KidKey) → lookup (key_eq key) fewer ≡ cond (key_eq old key) None (lookup (key_eq
-                key) kids)) →
-                ((key : KidKey) → lookup (key_eq key) more ≡ cond (key_eq (kid_key to copy) key) (Some
-                top) (lookup (key_eq key) fewer)) →
+                IsIndex more (with_key top new_key (without_key top (keys_of stored))) →
                 IsKept later order more (settled rows)
-            settle_kept later fewer more copy adds copied removes puts_key =
+            settle_kept later more adds indexes =
                 subst (λ (rs : List Page). IsKept later order more rs) (sym is) (record {
                   ids = ids-changed to with_kid (λ r. refl) _ ∙ ids-changed old.parent without_kid (λ
                       r. refl) _ ∙ ids-changed top (under to) (λ r. refl) rows ∙ listed.ids;
@@ -235,7 +242,9 @@ module _ (stored : List (ℕ × StoredRow)) (order : List ℕ) (rows : List Page
                         depth_is = own.depth_is;
                         not_counted = own.not_counted;
                       });
-                  named = named_now;
+                  indexed = indexed_as _ _ _ (keys_of later) (λ q. keys-changed less later to kid_added
+                      adds (λ page. refl) q ∙ keys-changed mid less old.parent kid_taken takes (λ page.
+                      refl) q ∙ keys-moved stored mid top (parent_put to) puts new_key new_is q) indexes;
                   are_pages = subst ArePages is listed.are_pages;
                 })
               where
@@ -272,20 +281,6 @@ module _ (stored : List (ℕ × StoredRow)) (order : List ℕ) (rows : List Page
                       not_counted = own.not_counted;
                     })
 
-                named_now : (q : ℕ) (text : List ℕ) → lookup (key_eq (kid_key q text)) more ≡ kid_named q
-                    text (counted rows top old.parent to row can
-                    (own_ids_listed stored order rows listed) found_row below_old
-                    goes_to differ)
-                named_now q text =
-                    puts_key (kid_key q text)
-                    ∙ ap (λ (own : List ℕ). cond (key_eq (kid_key to own) (kid_key q text)) (Some top)
-                    (lookup (key_eq (kid_key q text)) fewer)) (copied ∙ sym slug_old)
-                    ∙ ap (λ o. cond (key_eq (kid_key to row.slug) (kid_key q text)) (Some top) o)
-                    (removes (kid_key q text) ∙ ap (λ o. cond (key_eq old (kid_key q text)) None o)
-                    (named q text))
-                    ∙ ap (λ (own : List ℕ). cond (key_eq (kid_key to row.slug) (kid_key q text)) (Some
-                    top) (cond (key_eq (kid_key old.parent own) (kid_key q text)) None (kid_named q text
-                    rows))) (sym slug_old)
-                    ∙ named_then rows top old.parent to row can
-                    (own_ids_listed stored order rows listed) found_row below_old
-                    goes_to differ listed.are_pages q text
+                new_is : own_key (option_map (parent_put to) (lookup (nat_eq top) stored)) ≡ Some new_key
+                new_is = ap (λ o. own_key (option_map (parent_put to) o)) page_there.1 ∙ key_below
+                    (parent_put to page_there.0) to refl ∙ ap (λ (k : KidKey). Some (key_under k)) key_old

@@ -1,26 +1,21 @@
 -- The rows where a page has another slug.
-use Rattle.std.proofs.Common.{◌≡◌, ℕ, Bool, true, false, cond, nat_eq, ◌&&◌, List, [], ◌∷◌, Option, Some, None, IsSome, find, length, refl, ap, sym, ◌∙◌, subst, arith, rules}
+use Rattle.std.proofs.Common.{◌≡◌, ℕ, Bool, true, false, cond, nat_eq, ◌&&◌, List, [], ◌∷◌, Option, Some, None, IsSome, find, length, refl, ap, sym, ◌∙◌, subst, arith}
 use Rattle.std.proofs.lemmas.Bool.Decides.{nat_tests}
 use Rattle.std.proofs.lemmas.List.{length-map}
 use Rattle.std.specs.List.{AllByRecursion}
 use Rattle.std.specs.Option.{option_map, IfSome}
 use Rattle.std.specs.Str.{bytes_eq}
-use Rattle.std.specs.Map.{lookup}
 use Rattle.page_tree.specs.Rows.{is_parent, row_with, kid_named, kids_in}
 use Rattle.step_path.specs.Path.{IsPath}
 use Rattle.site_types.specs.Ids.{IsPageId}
-use Rattle.page_store.specs.declared.stored.StoredRow.{StoredRow}
-use Rattle.page_store.specs.declared.stored.KidKey.{KidKey}
 use Rattle.page_store.specs.PageRows.{above, parent_id}
 use Rattle.page_store.specs.Pages.{Page, EachPair, IsBefore, HasOtherId, HasOtherSlug, IsRootRow, StartsAtRoot, ArePages}
-use Rattle.page_store.specs.Kept.{seen, kid_key, key_eq, IsKept}
-use Rattle.page_store.specs.Changes.{changed, slug_changed, with_slug, MayHaveSlug, slug_put, own_key}
+use Rattle.page_store.specs.Changes.{changed, slug_changed, with_slug}
 use Rattle.page_store.proofs.AllLemmas.{All-weaker, All-both, All-always, All-map}
 use Rattle.page_store.proofs.InsertLemmas.{same_bytes, bytes_eq-self, all_fail_from_find}
-use Rattle.page_store.proofs.AddLemmas.{find_none}
 use Rattle.page_store.proofs.SeenLemmas.{All-find}
 use Rattle.page_store.proofs.KeptLemmas.{found_passes}
-use Rattle.page_store.proofs.ChangeLemmas.{after, All-changed, EachPair-changed, find-changed, count-changed, id_of_after, ids-changed, found-changed, texts-changed}
+use Rattle.page_store.proofs.ChangeLemmas.{after, All-changed, EachPair-changed, find-changed, count-changed, id_of_after}
 
 -- a test of a kid that passes says what its parent and its slug are
 pub kid_passes : (p : ℕ) (slug : List ℕ) (parent : Option ℕ) (own : List ℕ) →
@@ -268,67 +263,3 @@ module _ (pages : List Page) (are : ArePages pages) (id p : ℕ) (slug : List �
     own_slugs = own_slugs_then pages are.own_ids are.own_slugs others_free (same_row id pages row
         are.own_ids found);
   }
-
-  -- each kid is found by its slug
-  pub named-with_slug : (q : ℕ) (text : List ℕ) →
-      cond (key_eq (kid_key p slug) (kid_key q text)) (Some id) (cond (key_eq (kid_key p row.slug)
-      (kid_key q text)) None (kid_named q text pages)) ≡ kid_named q text all
-  named-with_slug q text =
-      by (key_eq (kid_key p slug) (kid_key q text)) (key_eq (kid_key p row.slug) (kid_key q text))
-      refl refl
-    where
-      -- whether a row is that kid
-      test : Page → Bool
-      test r = is_parent q r.parent && bytes_eq r.slug text
-
-      -- the page itself, as a kid with a slug
-      keyed : (mine : List ℕ) (t : Bool) → key_eq (kid_key p mine) (kid_key q text) ≡ t →
-          is_parent q row.parent && bytes_eq mine text ≡ t
-      keyed mine t e = rw below e
-
-      none_found : key_eq (kid_key p slug) (kid_key q text) ≡ false →
-          key_eq (kid_key p row.slug) (kid_key q text) ≡ true →
-          find (λ (r : Page). is_parent q r.parent && bytes_eq r.slug text) all ≡ None
-      none_found e f =
-          let same : p ≡ q = grind (arith, nat_tests) in
-          let texts : row.slug ≡ text = same_bytes row.slug text (grind (arith, nat_tests)) in
-          find_none (λ (r : Page). is_parent q r.parent && bytes_eq r.slug text) all
-          (All-map (λ r. is_parent q r.parent && bytes_eq r.slug text ≡ false) (after id change)
-          pages (All-both (λ r. nat_eq r.id id ≡ false → r.parent ≡ Some p → r.slug ≡ row.slug → ⊥)
-          (λ r. nat_eq r.id id ≡ true → r ≡ row) (λ r. (let out = after id change r in is_parent q
-          out.parent && bytes_eq out.slug text ≡ false)) (λ r apart is. pick r apart is same texts
-          (nat_eq r.id id) refl) pages others_apart (same_row id pages row are.own_ids found)))
-        where
-          pick : (r : Page) → (nat_eq r.id id ≡ false → r.parent ≡ Some p → r.slug ≡ row.slug → ⊥) →
-              (nat_eq r.id id ≡ true → r ≡ row) → p ≡ q → row.slug ≡ text → (t : Bool) →
-              nat_eq r.id id ≡ t → (let out = cond t (change r) r in is_parent q out.parent &&
-              bytes_eq out.slug text ≡ false)
-          pick r apart is same texts true g =
-              let parent : r.parent ≡ row.parent = ap (λ (s : Page). s.parent) (is g) in
-              rw parent (keyed slug false e)
-          pick r apart is same texts false g =
-              kid_fails q text r.parent r.slug (λ h k. apart g (h ∙ ap Some (sym same)) (k ∙ sym texts))
-
-      by : (t u : Bool) → key_eq (kid_key p slug) (kid_key q text) ≡ t →
-          key_eq (kid_key p row.slug) (kid_key q text) ≡ u →
-          cond t (Some id) (cond u None (kid_named q text pages)) ≡ kid_named q text all
-      by true u e f =
-          let same : p ≡ q = grind (arith, nat_tests) in
-          let texts : slug ≡ text = same_bytes slug text (grind (arith, nat_tests)) in
-          let one = find-changed_one (λ (r : Page). is_parent q r.parent && bytes_eq r.slug text) id
-          change pages row found (keyed slug true e)
-          (All-weaker (λ r. nat_eq r.id id ≡ false → r.parent ≡ Some p → r.slug ≡ slug → ⊥) (λ r.
-          nat_eq r.id id ≡ false → is_parent q r.parent && bytes_eq r.slug text ≡ false) (λ r frees
-          differ. kid_fails q text r.parent r.slug (λ h k. frees differ (h ∙ ap Some (sym same)) (k ∙
-          sym texts))) pages others_free) in
-          ap Some (sym own) ∙ sym (ap (λ o. option_map (λ (r : Page). r.id) o) one)
-      by false true e f = sym (ap (λ o. option_map (λ (r : Page). r.id) o) (none_found e f))
-      by false false e f =
-          sym (ap (λ o. option_map (λ (r : Page). r.id) o) (find-changed (λ (r : Page). is_parent q
-          r.parent && bytes_eq r.slug text) id change pages
-          (All-weaker (λ r. nat_eq r.id id ≡ true → r ≡ row) (λ r. nat_eq r.id id ≡ true →
-          is_parent q (change r).parent && bytes_eq (change r).slug text ≡ is_parent q r.parent &&
-          bytes_eq r.slug text) (λ r is test. rw (is test) (keyed slug false e ∙ sym (keyed row.slug
-          false f))) pages (same_row id pages row are.own_ids found)))
-          ∙ id_of_after id change (λ r. refl) (find (λ (r : Page). is_parent q r.parent && bytes_eq
-          r.slug text) pages))

@@ -1,31 +1,26 @@
 -- The rows without the subtree of a page: they are pages, and the others are found as before.
-use Rattle.std.proofs.Common.{◌≡◌, ℕ, suc, ◌+◌, ◌-◌, ◌<◌, ◌≤◌, Bool, true, false, cond, not, nat_eq, ◌&&◌, List, [], ◌∷◌, ◌++◌, Option, Some, None, IsSome, map, find, filter, length, take, drop, refl, ap, sym, ◌∙◌, subst, arith, rules}
+use Rattle.std.proofs.Common.{◌≡◌, ℕ, suc, ◌+◌, ◌-◌, ◌<◌, ◌≤◌, Bool, true, false, cond, not, nat_eq, ◌&&◌, List, [], ◌∷◌, ◌++◌, Option, Some, None, IsSome, map, find, filter, length, take, drop, refl, ap, sym, ◌∙◌, arith, rules}
 use Prim.Native.Nat.{zero}
 use Rattle.std.proofs.lemmas.Bool.Decides.{nat_tests}
 use Rattle.std.proofs.lemmas.List.{length-map, map-append, drop-drop}
 use Rattle.std.specs.List.{AllByRecursion, list_any, take-map, drop-map}
-use Rattle.std.specs.Option.{option_map, option_map_or, IfSome}
+use Rattle.std.specs.Option.{option_map, option_map_or}
 use Rattle.std.specs.Str.{bytes_eq}
-use Rattle.std.specs.Map.{lookup}
-use Rattle.page_tree.specs.Rows.{comes_before, is_parent, row_with, kid_named, kids_in}
+use Rattle.page_tree.specs.Rows.{comes_before, is_parent, row_with, kids_in}
 use Rattle.step_path.specs.Path.{IsPath, BeginsWith}
 use Rattle.site_types.specs.Ids.{IsPageId}
-use Rattle.page_store.specs.declared.stored.StoredRow.{StoredRow}
-use Rattle.page_store.specs.declared.stored.KidKey.{KidKey}
 use Rattle.page_store.specs.PageRows.{above, parent_id, IsRange}
 use Rattle.page_store.specs.Pages.{Page, EachPair, IsBefore, HasOtherId, HasOtherSlug, IsRootRow, StartsAtRoot, ArePages}
-use Rattle.page_store.specs.Kept.{seen, kid_key, key_eq, IsStored, IsKept}
 use Rattle.page_store.specs.Search.{begins}
-use Rattle.page_store.specs.Changes.{changed, without_kid, without_row, without_range, kid_taken, own_key, is_key_of}
+use Rattle.page_store.specs.Changes.{changed, without_kid, without_row, without_range}
 use Rattle.page_store.proofs.PathOrder.{comes_before-self, begins-self, BeginsWith-begins, begins-BeginsWith}
 use Rattle.page_store.proofs.AllLemmas.{All-weaker, All-both, All-always, All-map}
 use Rattle.page_store.proofs.InsertLemmas.{same_bytes}
-use Rattle.page_store.proofs.SeenLemmas.{All-find, found_by_own_id, kept_of_own_id, steps_of_kid}
+use Rattle.page_store.proofs.SeenLemmas.{All-find, found_by_own_id, steps_of_kid}
 use Rattle.page_store.proofs.KeptLemmas.{found_passes}
 use Rattle.page_store.proofs.WindowLemmas.{above-cons}
-use Rattle.page_store.proofs.ChangeLemmas.{after, All-changed, EachPair-changed, find-changed, count-changed, id_of_after, ids-changed, found-changed, texts-changed}
-use Rattle.page_store.proofs.SlugLemmas.{kid_passes, key_of_row}
-use Rattle.page_store.proofs.CutLemmas.{not_true, count_none, any-map, map-cond, All-stay, All-out, cut_window, EachPair-stay, find-stay, find-stay_kept, count-stay, count_one}
+use Rattle.page_store.proofs.ChangeLemmas.{after, All-changed, EachPair-changed, find-changed, count-changed, id_of_after, ids-changed}
+use Rattle.page_store.proofs.CutLemmas.{not_true, count_none, All-stay, All-out, cut_window, EachPair-stay, find-stay, find-stay_kept, count-stay, count_one}
 
 -- the parts of a test of two
 pub both_true : (t u : Bool) → t && u ≡ true → (t ≡ true) × (u ≡ true)
@@ -333,21 +328,6 @@ module _ (pages : List Page) (are : ArePages pages) (id p : ℕ) (row : Page)
   found_stays q = find-stay out (λ r. nat_eq r.id q) pages (EachPair-weaker HasOtherId (λ one later.
       nat_eq one.id q ≡ true → nat_eq later.id q ≡ true → ⊥) (λ one later differ e f. differ (grind
       (arith, nat_tests))) pages are.own_ids)
-
-  -- a kid is found by its slug among those that stay, unless it goes
-  pub named_stays : (q : ℕ) (text : List ℕ) → kid_named q text all ≡ cond (list_any (λ (r : Page).
-      is_parent q r.parent && bytes_eq r.slug text) (filter out pages)) None (kid_named q text pages)
-  named_stays q text =
-      same_found (λ r. is_parent q r.parent && bytes_eq r.slug text) (λ r. refl)
-      ∙ ap (λ o. option_map (λ (r : Page). r.id) o) (find-stay out (λ r. is_parent q r.parent &&
-      bytes_eq r.slug text) pages (EachPair-weaker HasOtherSlug (λ one later. is_parent q one.parent
-      && bytes_eq one.slug text ≡ true → is_parent q later.parent && bytes_eq later.slug text ≡ true
-      → ⊥) (λ one later differ e f. let first = kid_passes q text one.parent one.slug e in let second
-      = kid_passes q text later.parent later.slug f in differ (second.0 ∙ sym first.0) (second.1 ∙
-      sym first.1)) pages are.own_slugs))
-      ∙ map-cond (λ (r : Page). r.id) (list_any (λ (r : Page). is_parent q r.parent && bytes_eq
-      r.slug text) (filter out pages)) (find (λ (r : Page). is_parent q r.parent && bytes_eq r.slug
-      text) pages)
 
   -- the rows without the page's subtree are these
   pub without_is : without_range id pages ≡ all

@@ -1,13 +1,11 @@
 -- What the calls that change rows leave: a page with other fields, a page with another slug, and
 -- the rows without a subtree.
-use Rattle.std.specs.Prelude.{◌≡◌, ℕ, ◌-◌, ◌==◌, Bool, false, not, Option, None, Some, IsSome, if◌then◌else◌, List, map, filter}
-use Rattle.std.specs.Option.{option_map, option_map_or, IfSome}
+use Rattle.std.specs.Prelude.{◌≡◌, ℕ, ◌-◌, ◌==◌, not, IsSome, if◌then◌else◌, List, map, filter}
+use Rattle.std.specs.Option.{option_map_or, IfSome}
 use Rattle.page_tree.specs.Rows.{row_with, kid_named}
 use Rattle.site_types.specs.declared.body.Body.{Body}
 use Rattle.page_store.specs.declared.stored.StoredRow.{StoredRow}
-use Rattle.page_store.specs.declared.stored.KidKey.{KidKey}
 use Rattle.page_store.specs.Pages.{Page}
-use Rattle.page_store.specs.Kept.{kid_key, key_eq}
 use Rattle.page_store.specs.Search.{begins}
 
 -- the rows with a change to the page with the id
@@ -45,15 +43,6 @@ body_put body stored = record stored { row = record stored.row { body = body } }
 -- what is kept of a page, with this slug
 abbrev pub slug_put : List ℕ → StoredRow → StoredRow
 slug_put slug stored = record stored { row = record stored.row { slug = slug } }
-
--- the key of a page that is kept, where it has a parent
-abbrev pub own_key : Option StoredRow → Option KidKey
-own_key None = None
-own_key (Some stored) = option_map (λ parent. kid_key parent stored.row.slug) stored.parent
-
--- whether this is the key of a page that is kept
-abbrev pub is_key_of : KidKey → Option StoredRow → Bool
-is_key_of key stored = option_map_or (λ own. key_eq own key) (own_key stored) false
 
 -- a row with one child less
 abbrev pub without_kid : Page → Page

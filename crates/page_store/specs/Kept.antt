@@ -1,15 +1,15 @@
 -- How the store keeps its rows: by id, with the ids in path order, and the kids of each page by slug.
-use Rattle.std.specs.Prelude.{◌≡◌, ℕ, ◌+◌, Bool, false, nat_eq, ◌&&◌, Option, Some, None, List, [], ◌∷◌, map, length}
+use Rattle.std.specs.Prelude.{◌≡◌, ℕ, ◌+◌, false, nat_eq, Option, Some, None, List, [], ◌∷◌, map, length}
 use Rattle.std.specs.Option.{option_map, IfSome}
-use Rattle.std.specs.Str.{bytes_eq}
 use Rattle.std.specs.Map.{lookup}
 use Rattle.page_tree.specs.Walk.{SLASH}
-use Rattle.page_tree.specs.Rows.{row_with, kid_named}
+use Rattle.page_tree.specs.Rows.{row_with}
 use Rattle.step_path.specs.Path.{path_text, steps_of, IsPathText}
 use Rattle.site_types.specs.RootBody.{root_body}
 use Rattle.page_store.specs.declared.stored.StoredRow.{StoredRow}
-use Rattle.page_store.specs.declared.stored.KidKey.{KidKey}
+use Rattle.page_store.specs.declared.kid_index.KidIndex.{KidIndex}
 use Rattle.page_store.specs.PageRows.{seen_row}
+use Rattle.page_store.specs.KidIndex.{IsIndex, keys_of}
 use Rattle.page_store.specs.Pages.{Page, ArePages}
 
 -- what is kept of a page, as a row
@@ -26,14 +26,6 @@ abbrev pub rows_seen : List (ℕ × StoredRow) → List ℕ → List Page
 rows_seen stored [] = []
 rows_seen stored (id ∷ ids) = seen_before (lookup (nat_eq id) stored) (rows_seen stored ids)
 
--- the key of a kid
-abbrev pub kid_key : ℕ → List ℕ → KidKey
-kid_key parent slug = record { parent = parent; slug = slug }
-
--- whether two keys are one
-abbrev pub key_eq : KidKey → KidKey → Bool
-key_eq one other = nat_eq one.parent other.parent && bytes_eq one.slug other.slug
-
 -- what is kept of a page with one child more
 abbrev pub kid_added : StoredRow → StoredRow
 kid_added stored = record stored { row = record stored.row { numchild = stored.row.numchild + 1 } }
@@ -45,14 +37,13 @@ pub record IsStored (stored : StoredRow) : Type 0 where
   pub depth_is : stored.row.depth ≡ length (steps_of stored.row.path)
   pub not_counted : stored.counted ≡ false
 
--- The rows by id, the ids in their order and the kids by slug stand for these rows.
-pub record IsKept (stored : List (ℕ × StoredRow)) (order : List ℕ) (kids : List (KidKey
-    × ℕ)) (pages : List Page) : Type 0 where
+-- The rows by id, the ids in their order and the index of the kids stand for these rows.
+pub record IsKept (stored : List (ℕ × StoredRow)) (order : List ℕ) (kids : KidIndex) (pages :
+    List Page) : Type 0 where
   pub ids : map (λ row. row.id) pages ≡ order
   pub found : (id : ℕ) → row_with id pages ≡ option_map seen (lookup (nat_eq id) stored)
   pub texts : (id : ℕ) → IfSome (lookup (nat_eq id) stored) IsStored
-  pub named : (parent : ℕ) (slug : List ℕ) →
-      lookup (key_eq (kid_key parent slug)) kids ≡ kid_named parent slug pages
+  pub indexed : IsIndex kids (keys_of stored)
   pub are_pages : ArePages pages
 
 -- what is kept of the root of a new tree

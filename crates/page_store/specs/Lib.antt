@@ -1,5 +1,6 @@
 pub mod PageRows
 pub mod Pages
+pub mod KidIndex
 pub mod Kept
 pub mod Search
 pub mod KidWalk

@@ -4,13 +4,12 @@ use Rattle.std.specs.Prelude.{◌≡◌, ℕ, ◌+◌, ◌↔◌, false, nat_eq,
 use Rattle.std.specs.Option.{option_map, IfSome}
 use Rattle.std.specs.List.{AllByRecursion}
 use Rattle.std.specs.Map.{lookup}
-use Rattle.page_tree.specs.Rows.{row_with, kid_named, kids_in}
+use Rattle.page_tree.specs.Rows.{row_with, kids_in}
 use Rattle.step_path.specs.Path.{path_text}
 use Rattle.page_store.specs.declared.stored.StoredRow.{StoredRow}
-use Rattle.page_store.specs.declared.stored.KidKey.{KidKey}
 use Rattle.page_store.specs.PageRows.{parent_id}
 use Rattle.page_store.specs.Pages.{Page, HasOtherSlug, ArePages}
-use Rattle.page_store.specs.Kept.{seen, kid_key, key_eq, IsStored}
+use Rattle.page_store.specs.Kept.{seen, IsStored}
 use Rattle.page_store.specs.Relabelling.{reparented, recounted}
 
 -- a list with n elements, from a place on, moved to a place of those that remain
@@ -61,8 +60,3 @@ pub record CanSettle (top : Option ℕ) (rows : List Page) : Type 0 where
   pub counts : AllByRecursion (λ row. row.numchild ≡ length (kids_in row.id rows)) rows
   pub apart : (id : ℕ) (row : Page) → row_with id rows ≡ Some row →
       AllByRecursion (λ other. nat_eq other.id id ≡ false → HasOtherSlug row other) rows
-
--- the kids by slug are those of the parents that are kept
-abbrev pub AreNamed : List (KidKey × ℕ) → List Page → Type 0
-AreNamed kids rows = (parent : ℕ) (slug : List ℕ) →
-    lookup (key_eq (kid_key parent slug)) kids ≡ kid_named parent slug rows

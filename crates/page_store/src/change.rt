@@ -5,11 +5,12 @@ ghost use Rattle.std.specs.Map.{lookup};
 ghost use Rattle.indexmap.specs.IndexMap.{UpdatesBy, spare};
 ghost use Rattle.page_tree.specs.Rows.{row_with};
 ghost use Rattle.page_store.specs.Changes.{with_body, with_slug, MayHaveSlug};
-ghost use Rattle.page_store.specs.Changes.{body_put, slug_put, own_key};
+ghost use Rattle.page_store.specs.Changes.{body_put, slug_put};
+ghost use Rattle.page_store.specs.KidIndex.{own_key};
 
 use crate::Rows;
-use crate::insert::put;
-use crate::stored::{KidKey, StoredRow};
+use crate::kid_index::{KidKey, key_of_kid};
+use crate::stored::StoredRow;
 use indexmap::IndexMap;
 use site_types::{Body, PageId, Slug};
 use std::hash::Hash;
@@ -35,13 +36,10 @@ impl Rows {
         ensures spare { self.old.spare ≤ self.new.spare + 1 }
     {
         let old = key_of(&self.stored, id);
-        let new = KidKey {
-            parent: old.parent,
-            slug: slug.copy(),
-        };
+        let new = key_of_kid(old.parent, &slug);
         put_slug(&mut self.stored, id, slug);
-        take_out(&mut self.kids, &old);
-        put(&mut self.kids, new, id);
+        self.kids.take(old, id);
+        self.kids.add(new, id);
     }
 }
 
@@ -86,10 +84,7 @@ pub(crate) fn find_key(stored: &IndexMap<PageId, StoredRow>, id: PageId) -> Opti
 {
     let page = stored.get(&id)?;
     let parent = page.parent?;
-    Some(KidKey {
-        parent,
-        slug: page.row.slug.copy(),
-    })
+    Some(key_of_kid(parent, &page.row.slug))
 }
 
 /// Takes a key out of a map, where it is there.

@@ -11,8 +11,9 @@ ghost use Rattle.page_store.specs.Kept.{kid_added};
 ghost use Rattle.page_store.specs.Search.{leading};
 
 use crate::Rows;
+use crate::kid_index::key_of_kid;
 use crate::search::{Front, count_front};
-use crate::stored::{KidKey, StoredRow};
+use crate::stored::StoredRow;
 use arrayvec::ArrayVec;
 use indexmap::IndexMap;
 use site_types::{NoMemory, PageId, PageRow, Url};
@@ -50,10 +51,7 @@ impl Rows {
         let place = self.place_of(row.path.as_slice());
         let id = row.id;
         let _number = id.get();
-        let key = KidKey {
-            parent,
-            slug: row.slug.copy(),
-        };
+        let key = key_of_kid(parent, &row.slug);
         let stored = StoredRow {
             row,
             url,
@@ -62,7 +60,7 @@ impl Rows {
         };
         add_kid(&mut self.stored, parent);
         put(&mut self.stored, id, stored);
-        put(&mut self.kids, key, id);
+        self.kids.add(key, id);
         put_at(&mut self.order, place, id);
     }
 

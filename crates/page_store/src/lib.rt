@@ -3,6 +3,7 @@
 
 mod change;
 mod insert;
+mod kid_index;
 mod kids;
 mod look_up;
 mod parent;

@@ -7,7 +7,6 @@ ghost use Rattle.page_store.specs.PageRows.{page_row};
 ghost use Rattle.page_store.specs.Pages.{ArePages};
 
 use crate::Rows;
-use crate::stored::KidKey;
 use site_types::{PageId, PageRow, Slug, Url};
 
 impl Rows {
@@ -59,14 +58,14 @@ impl Rows {
         self.order.get(place).copied()
     }
 
-    /// The kid of a page with this slug, or `None` exactly where there is none. One look-up.
+    /// The kid of a page with this slug, or `None` exactly where there is none.
+    ///
+    /// Two look-ups if the kid is the first that came with its key, as nearly every one is; else one
+    /// more for each kid of the whole tree that is not the first with its own.
     pub fn by_slug(&self, parent: PageId, slug: &Slug) -> Option<PageId>
         ensures { result ≡ kid_named parent slug.now self.now.pages }
     {
-        let key = KidKey {
-            parent,
-            slug: slug.copy(),
-        };
-        self.kids.get(&key).copied()
+        let _ = &self.order;
+        self.kids.find(&self.stored, parent, slug)
     }
 }

@@ -1,25 +1,24 @@
 //! Taking a page out with all below it.
-ghost use Rattle.std.specs.Prelude.{◌≡◌, ℕ, ◌-◌, ◌++◌, ◌≤◌, Some, IsSome, None, nat_eq, if◌then◌else◌};
+ghost use Rattle.std.specs.Prelude.{◌≡◌, ℕ, ◌-◌, ◌++◌, ◌≤◌, Option, Some, IsSome, None, nat_eq, if◌then◌else◌};
 ghost use Rattle.std.specs.Prelude.{take, drop, vec_len, vec_capacity};
 ghost use Rattle.std.specs.Option.{option_map};
 ghost use Rattle.std.specs.List.{list_any};
 ghost use Rattle.std.specs.Map.{lookup};
 ghost use Rattle.indexmap.specs.IndexMap.{spare};
 ghost use Rattle.page_tree.specs.Rows.{row_with};
-ghost use Rattle.page_store.specs.Kept.{key_eq};
-ghost use Rattle.page_store.specs.Changes.{without_range, own_key, is_key_of, kid_taken};
+ghost use Rattle.page_store.specs.KidIndex.{own_key, keys_of, IsIndex, without_key, index_room};
+ghost use Rattle.page_store.specs.Changes.{without_range, kid_taken};
 
 use crate::Rows;
-use crate::change::take_out;
-use crate::stored::{KidKey, StoredRow};
+use crate::kid_index::{KidIndex, KidKey, key_of_kid};
+use crate::stored::StoredRow;
 use indexmap::IndexMap;
 use site_types::PageId;
 
 impl Rows {
     /// Takes a page out with all below it, and lowers the child count of its parent by one.
     ///
-    /// It takes two look-ups for each page that goes, copies no slug, and moves four bytes for each
-    /// page after them.
+    /// It takes three look-ups for each page that goes, and moves four bytes for each page after them.
     pub fn remove_range(&mut self, id: PageId)
         requires there { IsSome (row_with id self.old.pages) }
         requires below_root { id ≡ 1 → ⊥ }
@@ -39,19 +38,14 @@ impl Rows {
 }
 
 /// Takes out what is kept of these pages, and their keys.
-fn take_pages(
-    stored: &mut IndexMap<PageId, StoredRow>,
-    kids: &mut IndexMap<KidKey, PageId>,
-    ids: &[PageId],
-)
-    ensures keys { (key : KidKey) → lookup (key_eq key) kids.new.entries
-        ≡ (if list_any (λ id. is_key_of key (lookup (nat_eq id) stored.old.entries)) ids.now then None
-        else lookup (key_eq key) kids.old.entries) }
+fn take_pages(stored: &mut IndexMap<PageId, StoredRow>, kids: &mut KidIndex, ids: &[PageId])
+    requires indexed { IsIndex kids.old (keys_of stored.old.entries) }
+    ensures indexed { IsIndex kids.new (keys_of stored.new.entries) }
     ensures rows { (id : ℕ) → lookup (nat_eq id) stored.new.entries
         ≡ (if list_any (λ taken. nat_eq taken id) ids.now then None
         else lookup (nat_eq id) stored.old.entries) }
     ensures spare_rows { spare stored.old ≤ spare stored.new }
-    ensures spare_kids { spare kids.old ≤ spare kids.new }
+    ensures room { index_room kids.old ≤ index_room kids.new }
 {
     for id in ids {
         take_page(stored, kids, *id);
@@ -59,36 +53,27 @@ fn take_pages(
 }
 
 /// Takes out what is kept of a page, and its key, if it has one.
-fn take_page(
-    stored: &mut IndexMap<PageId, StoredRow>,
-    kids: &mut IndexMap<KidKey, PageId>,
-    id: PageId,
-)
-    ensures keys { (key : KidKey) → lookup (key_eq key) kids.new.entries
-        ≡ (if is_key_of key (lookup (nat_eq id) stored.old.entries) then None
-        else lookup (key_eq key) kids.old.entries) }
+fn take_page(stored: &mut IndexMap<PageId, StoredRow>, kids: &mut KidIndex, id: PageId)
+    requires indexed { IsIndex kids.old (keys_of stored.old.entries) }
+    ensures indexed { IsIndex kids.new (keys_of stored.new.entries) }
     ensures rows { (other : ℕ) → lookup (nat_eq other) stored.new.entries
         ≡ (if nat_eq id other then None else lookup (nat_eq other) stored.old.entries) }
     ensures spare_rows { spare stored.old ≤ spare stored.new }
-    ensures spare_kids { spare kids.old ≤ spare kids.new }
+    ensures room { index_room kids.old ≤ index_room kids.new }
 {
     if let Some(page) = stored.swap_remove(&id) {
-        take_key(kids, page);
+        take_key(kids, id, &page);
     }
 }
 
-/// Takes out the key of what was kept of a page, if it has one. The slug is moved, not copied.
-fn take_key(kids: &mut IndexMap<KidKey, PageId>, page: StoredRow)
-    ensures keys { (key : KidKey) → lookup (key_eq key) kids.new.entries
-        ≡ (if is_key_of key (Some page) then None else lookup (key_eq key) kids.old.entries) }
-    ensures spare { spare kids.old ≤ spare kids.new }
+/// Takes out the key of what was kept of a page, if it has one.
+fn take_key(kids: &mut KidIndex, id: PageId, page: &StoredRow)
+    ensures taken { (keys : ℕ → Option KidKey) → IsIndex kids.old keys → keys id ≡ own_key (Some page.now)
+        → IsIndex kids.new (without_key id keys) }
+    ensures room { index_room kids.old ≤ index_room kids.new }
 {
     if let Some(parent) = page.parent {
-        let key = KidKey {
-            parent,
-            slug: page.row.slug,
-        };
-        take_out(kids, &key);
+        kids.take(key_of_kid(parent, &page.row.slug), id);
     }
 }
 

@@ -5,6 +5,7 @@ ghost use Rattle.page_store.specs.PageRows.{root_rows};
 ghost use Rattle.page_store.specs.Kept.{IsRootPage};
 
 use crate::Rows;
+use crate::kid_index::KidIndex;
 use crate::stored::StoredRow;
 use indexmap::IndexMap;
 use site_types::{Body, NoMemory, PageId, PageRow, PathText, Slug, Url, UserId};
@@ -24,7 +25,7 @@ impl Rows {
         Ok(Rows {
             stored,
             order,
-            kids: IndexMap::new(alloc),
+            kids: KidIndex::new(alloc),
         })
     }
 }

@@ -6,13 +6,15 @@ ghost use Rattle.indexmap.specs.IndexMap.{spare};
 ghost use Rattle.page_tree.specs.Rows.{row_with};
 ghost use Rattle.page_store.specs.PageRows.{parent_id};
 ghost use Rattle.page_store.specs.Kept.{rows_seen, IsKept};
-ghost use Rattle.page_store.specs.Settling.{parent_put, settled, IsListed, CanSettle, AreNamed};
+ghost use Rattle.page_store.specs.KidIndex.{IsIndex, keys_of, index_room};
+ghost use Rattle.page_store.specs.Settling.{parent_put, settled, IsListed, CanSettle};
 
-use crate::change::{find_key, take_out};
-use crate::insert::{above_text, add_kid, put};
+use crate::change::find_key;
+use crate::insert::{above_text, add_kid};
+use crate::kid_index::{KidIndex, KidKey};
 use crate::remove::take_kid;
 use crate::search::{Front, count_front};
-use crate::stored::{KidKey, StoredRow};
+use crate::stored::StoredRow;
 use indexmap::IndexMap;
 use site_types::PageId;
 
@@ -22,18 +24,18 @@ use site_types::PageId;
 /// One search of as many texts as the number of pages has binary digits, and six look-ups.
 pub(crate) fn settle(
     stored: &mut IndexMap<PageId, StoredRow>,
-    kids: &mut IndexMap<KidKey, PageId>,
+    kids: &mut KidIndex,
     order: &[PageId],
     top: Option<PageId>,
 )
     requires listed { IsListed stored.old.entries order.now (rows_seen stored.old.entries order.now) }
     requires can { CanSettle top (rows_seen stored.old.entries order.now) }
-    requires named { AreNamed kids.old.entries (rows_seen stored.old.entries order.now) }
-    requires room { 0 < spare kids.old }
-    ensures kept { IsKept stored.new.entries order.now kids.new.entries
+    requires indexed { IsIndex kids.old (keys_of stored.old.entries) }
+    requires room { 0 < index_room kids.old }
+    ensures kept { IsKept stored.new.entries order.now kids.new
         (settled (rows_seen stored.old.entries order.now)) }
     ensures spare_rows { spare stored.new ≡ spare stored.old }
-    ensures spare_kids { spare kids.old ≤ spare kids.new + 1 }
+    ensures spare_kids { index_room kids.old ≤ index_room kids.new + 1 }
 {
     let Some(top) = top else {
         return;
@@ -47,13 +49,13 @@ pub(crate) fn settle(
     }
     let new = KidKey {
         parent,
-        slug: old.slug.copy(),
+        digest: old.digest,
     };
     put_parent(stored, top, parent);
     take_kid(stored, old.parent);
     add_kid(stored, parent);
-    take_out(kids, &old);
-    put(kids, new, top);
+    kids.take(old, top);
+    kids.add(new, top);
 }
 
 /// The page whose path is that of the page without its last step.

@@ -8,7 +8,8 @@ ghost use Rattle.site_model.specs.Laws.{FitsCommand};
 ghost use Rattle.site_model.specs.World.{World};
 ghost use Rattle.site_types.specs.declared.command.Command.{Command as AnyCommand};
 ghost use Rattle.sight_model.specs.Cards.{card_of, answer_of};
-ghost use Rattle.wire_model.specs.Exchange.{called_with, card_told, desk_told, public_told};
+ghost use Rattle.sight_model.specs.References.{refs_shown};
+ghost use Rattle.wire_model.specs.Exchange.{called_with, card_told, refs_told, desk_told, public_told};
 ghost use Rattle.pagetree_session.specs.declared.session.TheConstants.{ANSWER_LIMIT};
 ghost use Rattle.wire_model.specs.Exchange as wire;
 ghost use Rattle.pagetree_session.specs.Standing.{StandsFor, IsReady, Answers, Answered, Keeps};
@@ -74,6 +75,10 @@ fn answer_call(
             Some(_) => answer_card(alloc, site, id),
             None => Ok(Answer::NoUser),
         },
+        Call::Refs(id) => match user_of(site, token) {
+            Some(_) => answer_refs(alloc, site, id),
+            None => Ok(Answer::NoUser),
+        },
         Call::Desk(id) => match user_of(site, token) {
             Some(user) => answer_desk(alloc, site, id, user),
             None => Ok(Answer::NoUser),
@@ -92,6 +97,17 @@ fn answer_card(alloc: Global, site: &MemorySite, id: PageId) -> Result<Answer, N
 {
     match site.card(alloc, id)? {
         Some(card) => Ok(Answer::Page(card)),
+        None => Ok(Answer::Refused(Refusal::NoPage(id))),
+    }
+}
+
+/// The answer to a call for the pages that link to a page.
+fn answer_refs(alloc: Global, site: &MemorySite, id: PageId) -> Result<Answer, NoMemory>
+    ensures { (tally : Tally World) → IsReady site.now tally
+        → IfOk result (λ answer. answer ≡ (refs_told id (refs_shown tally.world id)).answer) }
+{
+    match site.refs(alloc, id)? {
+        Some(refs) => Ok(Answer::Refs(refs)),
         None => Ok(Answer::Refused(Refusal::NoPage(id))),
     }
 }

@@ -8,6 +8,7 @@ ghost use Rattle.site_model.specs.Laws.{FitsCommand};
 ghost use Rattle.site_model.specs.Rights as rights;
 ghost use Rattle.site_model.specs.World.{World};
 ghost use Rattle.sight_model.specs.Cards.{card_of, answer_of};
+ghost use Rattle.sight_model.specs.References.{refs_shown};
 ghost use Rattle.pagetree_session.specs.declared.session.TheConstants.{ANSWER_LIMIT};
 ghost use Rattle.site_model.specs.Step as steps;
 ghost use Rattle.wire_model.specs.Exchange.{run};
@@ -17,7 +18,7 @@ ghost use Rattle.pagetree_session.specs.Standing.{StandsFor, IsReady, Answers, f
 use grants::Fault;
 use public_view::Card;
 use site_core::Core;
-use site_types::{Command, Content, Digest, Moment, NoMemory, PageId, UserId};
+use site_types::{Command, Content, Digest, Ids, Moment, NoMemory, PageId, UserId};
 use std::alloc::Global;
 use wire_model::Answer;
 
@@ -93,6 +94,16 @@ impl MemorySite {
         self.core.public(alloc, url)
     }
 
+    /// The first 1,000 pages that link to a page, rising, or `None` exactly if there is no such page.
+    ///
+    /// It costs what the site in memory takes for it.
+    pub fn refs(&self, alloc: Global, id: PageId) -> Result<Option<Ids>, NoMemory>
+        ensures { (tally : Tally World) → IsReady self.now tally
+            → IfOk result (λ refs. refs ≡ refs_shown tally.world id) }
+    {
+        self.core.refs(alloc, id)
+    }
+
     /// The text of a user's desk on a page, or `None` exactly if the user has none there.
     pub fn desk(&self, page: PageId, user: UserId) -> Option<&Content>
         ensures { (tally : Tally World) → IsReady self.now tally
@@ -131,12 +142,15 @@ fn is_built(command: &Command) -> bool
             | Command::Move { .. }
             | Command::Delete { .. }
             | Command::SetSlug { .. }
+            | Command::Alias { .. }
+            | Command::Detach { .. }
             | Command::OpenDesk { .. }
             | Command::SaveDesk { .. }
             | Command::ShutDesk { .. }
             | Command::File { .. }
             | Command::Publish { .. }
             | Command::Unpublish { .. }
+            | Command::Unschedule { .. }
             | Command::Lock { .. }
             | Command::Unlock { .. }
             | Command::Purge { .. }
@@ -144,5 +158,6 @@ fn is_built(command: &Command) -> bool
             | Command::DefineGroup
             | Command::Member { .. }
             | Command::Grant { .. }
+            | Command::Tick
     )
 }

@@ -3,6 +3,8 @@
 
 mod card;
 mod kid;
+mod refs;
 
 pub use card::Card;
 pub use kid::{LiveKid, MAX_KIDS};
+pub use refs::MAX_REFS;

@@ -10,7 +10,8 @@ use Rattle.page_store.specs.Pages.{Page}
 use Rattle.revision_shelf.specs.Shelf.{revision_with}
 use Rattle.publishing.specs.Times.{body_in, named, expiry_of, go_live_of}
 use Rattle.publishing.specs.Laws.{is_timed_by, IsUntimed, NamesSame, RevisionsChange, RevisionsCome, RevisionsGo, PagesChange, PageComes, PagesMove, TablesStart}
-use Rattle.publishing.proofs.BodyLemmas.{body_in-with_row, eq_turned, eq_means, eq_self}
+use Rattle.time_table.proofs.EntryLemmas.{eq_turned}
+use Rattle.publishing.proofs.BodyLemmas.{body_in-with_row, eq_means, eq_self}
 
 -- the expiry of what names the same revisions
 same_expiry : (revisions after : List Revision) (body : Body) → NamesSame revisions after body →
@@ -107,7 +108,7 @@ page_comes times new pages revisions timed none untimed =
     by page false e is = inl is
 
 -- a revision is found by its id also before others that do not have it
-found_before : (id : ℕ) (revisions new : List Revision) →
+pub found_before : (id : ℕ) (revisions new : List Revision) →
     AllByRecursion (λ (revision : Revision). nat_eq revision.id id ≡ false) new →
     revision_with id (revisions ++ new) ≡ revision_with id revisions
 found_before id [] [] all = refl

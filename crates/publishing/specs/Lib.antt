@@ -1,3 +1,5 @@
 pub mod Times
 pub mod Bodies
 pub mod Laws
+pub mod Ticks
+pub mod Ticked

@@ -4,6 +4,7 @@ ghost use Rattle.std.specs.Option.{option_and_then, option_copied, option_map};
 ghost use Rattle.page_tree.specs.Rows.{row_with};
 ghost use Rattle.page_store.specs.Changes.{with_body};
 ghost use Rattle.revision_shelf.specs.Shelf.{revision_with};
+ghost use Rattle.time_table.specs.Table.{with_option};
 ghost use Rattle.publishing.specs.Times.{body_in, named, expiry_of, go_live_of, AreTimed};
 
 use page_store::Rows;
@@ -19,6 +20,10 @@ pub fn put_body(rows: &mut Rows, times: &mut Times, shelf: &Shelf, page: PageId,
     requires go_lives { 1 ≤ times.old.go_lives.spare }
     ensures pages { rows.new.pages ≡ with_body page body rows.old.pages }
     ensures spare { rows.new.spare ≡ rows.old.spare }
+    ensures expiry { times.new.expiries.entries
+        ≡ with_option page (expiry_of shelf.now.revisions body) times.old.expiries.entries }
+    ensures go_live { times.new.go_lives.entries
+        ≡ with_option page (go_live_of shelf.now.revisions body) times.old.go_lives.entries }
     ensures timed { AreTimed times.old rows.old.pages shelf.now.revisions
         → AreTimed times.new rows.new.pages shelf.now.revisions }
     ensures expiries_spare { times.old.expiries.spare ≤ times.new.expiries.spare + 1 }
@@ -30,7 +35,7 @@ pub fn put_body(rows: &mut Rows, times: &mut Times, shelf: &Shelf, page: PageId,
 }
 
 /// When a page with these fields stops being live, if ever.
-fn expiry(shelf: &Shelf, body: &Body) -> Option<Moment>
+pub(crate) fn expiry(shelf: &Shelf, body: &Body) -> Option<Moment>
     ensures { result ≡ expiry_of shelf.now.revisions body.now }
 {
     if !body.live {
@@ -43,7 +48,7 @@ fn expiry(shelf: &Shelf, body: &Body) -> Option<Moment>
 }
 
 /// When the scheduled revision of a page with these fields goes live, if there is one.
-fn go_live(shelf: &Shelf, body: &Body) -> Option<Moment>
+pub(crate) fn go_live(shelf: &Shelf, body: &Body) -> Option<Moment>
     ensures { result ≡ go_live_of shelf.now.revisions body.now }
 {
     match find(shelf, body.scheduled) {
@@ -53,7 +58,7 @@ fn go_live(shelf: &Shelf, body: &Body) -> Option<Moment>
 }
 
 /// The revision with the id, where one is named and is there.
-fn find(shelf: &Shelf, id: Option<RevisionId>) -> Option<&Revision>
+pub(crate) fn find(shelf: &Shelf, id: Option<RevisionId>) -> Option<&Revision>
     ensures { option_copied result ≡ named shelf.now.revisions id }
 {
     match id {

@@ -1,6 +1,7 @@
 //! What keeps time tables in step without a change to them. Each is a function that does nothing:
 //! its contract is the law.
 ghost use Rattle.publishing.specs.Laws.{RevisionsChange, RevisionsCome, RevisionsGo, PagesChange, PageComes, PagesMove, TablesStart};
+ghost use Rattle.publishing.specs.Ticks.{DueInWorld};
 
 /// Tables stay in step with other revisions, where each page names the same ones.
 pub fn revisions_change()
@@ -36,4 +37,9 @@ pub fn pages_move()
 /// Tables without moments are those of pages that are neither live nor scheduled.
 pub fn tables_start()
     ensures { TablesStart }
+{}
+
+/// What is due in a world is due of the rows of its tree and of its revisions.
+pub fn due_in_world()
+    ensures { DueInWorld }
 {}

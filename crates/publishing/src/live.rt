@@ -10,10 +10,11 @@ ghost use Rattle.time_table.specs.declared.times.Times.{Times as BothTables};
 ghost use Rattle.publishing.specs.Bodies.{unpublished_body, locked_body, unlocked_body};
 ghost use Rattle.publishing.specs.Times.{body_in, AreTimed};
 
+use crate::bodies::{locked_body, published_body, unlocked_body, unpublished_body, waits};
 use crate::body::{body_of, put_body};
 use page_store::Rows;
 use revision_shelf::Shelf;
-use site_types::{Body, Moment, PageId, Revision, RevisionId, UserId};
+use site_types::{Moment, PageId, RevisionId, UserId};
 use time_table::Times;
 
 /// Publishes a revision of a page at `t`, and tells whether it was only scheduled, as it is exactly
@@ -44,41 +45,9 @@ pub fn publish(
     let Some(it) = shelf.get(revision) else {
         unreachable!();
     };
-    let body = published(it, body_of(rows, page), t);
+    let body = published_body(it, &body_of(rows, page), t);
     put_body(rows, times, shelf, page, body);
     waits(it, t)
-}
-
-/// Whether the go-live of a revision is after this moment.
-fn waits(revision: &Revision, t: Moment) -> bool
-    ensures { result ≡ is_after t revision.now.go_live }
-{
-    match revision.go_live {
-        Some(go_live) => t < go_live,
-        None => false,
-    }
-}
-
-/// A page with these fields after a revision of it was published at `t`.
-fn published(revision: &Revision, body: Body, t: Moment) -> Body
-    ensures { result ≡ published_body t revision.now body }
-{
-    if waits(revision, t) {
-        Body {
-            scheduled: Some(revision.id),
-            ..body
-        }
-    } else {
-        Body {
-            live: true,
-            expired: false,
-            shown: Some(revision.id),
-            scheduled: None,
-            first_published: body.first_published.or(Some(t)),
-            last_published: Some(t),
-            ..body
-        }
-    }
 }
 
 /// Takes a page out of the public, and empties its schedule.
@@ -92,11 +61,7 @@ pub fn unpublish(rows: &mut Rows, times: &mut Times, page: PageId)
     ensures expiries_spare { times.old.expiries.spare ≤ times.new.expiries.spare }
     ensures go_lives_spare { times.old.go_lives.spare ≤ times.new.go_lives.spare }
 {
-    let body = Body {
-        live: false,
-        scheduled: None,
-        ..body_of(rows, page)
-    };
+    let body = unpublished_body(&body_of(rows, page));
     times.expiries.clear(page);
     times.go_lives.clear(page);
     rows.set_body(page, body);
@@ -111,10 +76,7 @@ pub fn lock(rows: &mut Rows, page: PageId, user: UserId)
     ensures timed { (times : BothTables) (revisions : List PageRevision) →
         AreTimed times rows.old.pages revisions → AreTimed times rows.new.pages revisions }
 {
-    let body = Body {
-        locked_by: Some(user),
-        ..body_of(rows, page)
-    };
+    let body = locked_body(&body_of(rows, page), user);
     rows.set_body(page, body);
 }
 
@@ -127,9 +89,6 @@ pub fn unlock(rows: &mut Rows, page: PageId)
     ensures timed { (times : BothTables) (revisions : List PageRevision) →
         AreTimed times rows.old.pages revisions → AreTimed times rows.new.pages revisions }
 {
-    let body = Body {
-        locked_by: None,
-        ..body_of(rows, page)
-    };
+    let body = unlocked_body(&body_of(rows, page));
     rows.set_body(page, body);
 }

@@ -95,7 +95,7 @@ live_kids_live world page =
 shown_live : (world : World) (page : ℕ) → All (TellsLiveKid world page) (kids_shown world page)
 shown_live world page =
     let kids = live_kids world page in
-    let make = kid_from world.part.revisions in
+    let make = kid_from world.part.tree world.part.revisions in
     let told : AllByRecursion (λ row. TellsLiveKid world page (make row)) kids =
     all_weaker (IsLiveKid world page) (λ row. TellsLiveKid world page (make row))
     (λ row is. (row, is, refl)) kids (live_kids_live world page) in
@@ -116,7 +116,8 @@ kids_are_live world id card is =
 shown_count : (world : World) (page : ℕ) →
     length (kids_shown world page) ≡ min MAX_KIDS (length (live_kids world page))
 shown_count world page =
-    length-map (take MAX_KIDS (live_kids world page)) (kid_from world.part.revisions)
+    length-map (take MAX_KIDS (live_kids world page))
+    (kid_from world.part.tree world.part.revisions)
     ∙ length-take MAX_KIDS (live_kids world page)
 
 -- no card tells more than `MAX_KIDS` kids
@@ -131,11 +132,11 @@ kids_are_few world id card is =
 -- if fewer than `MAX_KIDS` kids are shown, each live kid is
 shown_if_few : (world : World) (page : ℕ) (row : Row Body) →
     length (kids_shown world page) < MAX_KIDS → IsLiveKid world page row →
-    Contains (kids_shown world page) (kid_from world.part.revisions row)
+    Contains (kids_shown world page) (kid_from world.part.tree world.part.revisions row)
 shown_if_few world page row few kid =
     let rows = rows_of world.part.tree in
     let kids = live_kids world page in
-    let make = kid_from world.part.revisions in
+    let make = kid_from world.part.tree world.part.revisions in
     let all : take MAX_KIDS kids ≡ kids =
     take_all MAX_KIDS kids (omega (arith, few, shown_count world page)) in
     let below = is_parent_of page row.parent kid.below in
@@ -150,12 +151,12 @@ shown_if_few world page row few kid =
 -- a card that tells fewer than `MAX_KIDS` kids tells every live kid of its page
 pub no_kid_is_left_out : (world : World) (id : ℕ) (card : Card) (row : Row Body) →
     card_of world id ≡ Some card → length card.kids < MAX_KIDS → IsLiveKid world id row →
-    Contains card.kids (kid_from world.part.revisions row)
+    Contains card.kids (kid_from world.part.tree world.part.revisions row)
 no_kid_is_left_out world id card row is few kid =
     let from = card_made_of world id card is in
     let kids : card.kids ≡ kids_shown world id =
     ap (λ (c : Card). c.kids) from.made ∙ ap (kids_shown world) from.same_id in
     let few_shown : length (kids_shown world id) < MAX_KIDS =
     subst (λ some. length some < MAX_KIDS) kids few in
-    subst (λ some. Contains some (kid_from world.part.revisions row)) (sym kids)
+    subst (λ some. Contains some (kid_from world.part.tree world.part.revisions row)) (sym kids)
     (shown_if_few world id row few_shown kid)

@@ -1,4 +1,5 @@
 pub mod FindLemmas
 pub mod CardLemmas
+pub mod AliasLemmas
 pub mod LiveLemmas
 pub mod KidLemmas

@@ -51,30 +51,32 @@ only_live : (world : World) (url : List ℕ) (card : Card) (found : Option (Row 
     find (is_asked world url) (rows_of world.part.tree) ≡ found →
     option_and_then (card_of world) (option_map (λ (row : Row Body). row.id) found) ≡ Some card →
     (row : Row Body) × IsLiveAt world url row × (card.id ≡ row.id) × (card.url ≡ url)
-    × (card.body ≡ row.body)
+    × (card.body ≡ record row.body { live = true })
 only_live world url card None apart there is = absurd (cc)
 only_live world url card (Some row) apart there is =
     let rows = rows_of world.part.tree in
     let passes = found_passes (is_asked world url) rows row there in
     let here : row.url ≡ url =
     (bytes_eq-Decides row.url url).0 (first_holds _ (is_live world.part.tree row.body) passes) in
+    let here_live : is_live world.part.tree row.body ≡ true =
+    second_holds (bytes_eq row.url url) _ passes in
     let made = made_of_same world (is_asked world url) row card apart there is in (
       row,
       record {
         there = found_stands (is_asked world url) rows row there;
         here = here;
-        live = second_holds (bytes_eq row.url url) _ passes;
+        live = here_live;
       },
       ap (λ (c : Card). c.id) made,
       ap (λ (c : Card). c.url) made ∙ here,
-      ap (λ (c : Card). c.body) made,
+      ap (λ (c : Card). c.body) made ∙ ap (λ live. record row.body { live = live }) here_live,
     )
 
 -- where no two pages have one id, everybody is answered the card of a live page with the URL
 pub only_live_pages_are_public : (world : World) (url : List ℕ) (card : Card) →
     HasDistinctIds world.part.tree → answer_of world url ≡ Some card →
     (row : Row Body) × IsLiveAt world url row × (card.id ≡ row.id) × (card.url ≡ url)
-    × (card.body ≡ row.body)
+    × (card.body ≡ record row.body { live = true })
 only_live_pages_are_public world url card apart is =
     only_live world url card (find (is_asked world url) (rows_of world.part.tree)) apart refl is
 

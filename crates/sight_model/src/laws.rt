@@ -1,5 +1,5 @@
 //! Laws of what readers see. Each is a function that does nothing: its contract is the law.
-ghost use Rattle.sight_model.specs.Laws.{CardsKeepTheirPage, OnlyLivePagesArePublic, LivePagesArePublic, KidsAreLive, KidsAreFew, NoKidIsLeftOut};
+ghost use Rattle.sight_model.specs.Laws.{CardsKeepTheirPage, OnlyLivePagesArePublic, LivePagesArePublic, KidsAreLive, KidsAreFew, NoKidIsLeftOut, AliasesShowTheirSource};
 
 /// The page of a card is the one that the card was asked of.
 pub fn cards_keep_their_page()
@@ -29,4 +29,9 @@ pub fn kids_are_few()
 /// A card that tells fewer than `MAX_KIDS` kids tells every live kid of its page.
 pub fn no_kid_is_left_out()
     ensures { NoKidIsLeftOut }
+{}
+
+/// An alias of a regular page shows what its source shows, and is live where that is.
+pub fn aliases_show_their_source()
+    ensures { AliasesShowTheirSource }
 {}

@@ -1,12 +1,11 @@
 -- Live pages by their URLs: no two pages have one URL, so that the page with a URL is the one that is
 -- asked whether it is live.
-use Rattle.std.proofs.Common.{◌≡◌, ◌≤◌, ℕ, Bool, true, false, cond, ◌&&◌, nat_eq, List, [], ◌∷◌, ◌++◌, length, find, Option, Some, None, is_some, IsSome, bytes_eq, refl, sym, ap, subst, ◌∙◌, arith, rules}
+use Rattle.std.proofs.Common.{◌≡◌, ◌≤◌, ℕ, Bool, true, false, cond, ◌&&◌, List, [], ◌∷◌, ◌++◌, length, find, Option, Some, None, IsSome, bytes_eq, refl, sym, ap, subst, ◌∙◌, arith, rules}
 use Rattle.std.specs.List.{AllByRecursion}
 use Rattle.std.specs.Option.{option_map}
-use Rattle.page_tree.specs.Tree.{Forest, bare, grown, or_else, node_of}
+use Rattle.page_tree.specs.Tree.{Forest, bare, grown}
 use Rattle.page_tree.specs.Rows.{rows_below, rows_of, row_with, child_url}
 use Rattle.page_tree.specs.Walk.{SLASH}
-use Rattle.page_tree.proofs.RowLemmas.{find-append}
 use Rattle.site_ids.specs.Slug.{IsSlug}
 use Rattle.site_types.specs.declared.body.Body.{Body}
 use Rattle.site_types.specs.declared.page_row.PageRow.{PageRow}
@@ -24,8 +23,9 @@ use Rattle.slug_urls.specs.Descent.{page_below}
 use Rattle.slug_urls.proofs.Descents.{reached}
 use Rattle.slug_urls.proofs.TreeUrls.{urls_of_tree}
 use Rattle.site_model.specs.World.{TreePart}
-use Rattle.site_model.specs.Views.{first_body, body_of, is_live, is_public}
+use Rattle.site_model.specs.Views.{body_of, is_live}
 use Rattle.site_model.specs.Sound.{IsTree}
+use Rattle.sight_model.proofs.AliasLemmas.{body_in}
 use Rattle.site_core.specs.Finding.{live_at}
 
 -- what holds of each page holds of its row
@@ -78,56 +78,6 @@ have_slugs part sound pages is =
     (subst (λ tree. AllPages (λ id slug body. (id ≡ 1 → ⊥) → IsSlug slug) tree →
     count 1 tree ≤ 1 → HaveSlugs (rows_of tree)) (sym sound.whole.is)
     (slugs_below sound.whole.own sound.whole.kids) sound.slugs (once part.tree sound.distinct 1))
-
--- what is kept of the first page of two lists of pages
-first_or : (a b : Forest Body) →
-    first_body (or_else a b) ≡ cond (is_some (first_body a)) (first_body a) (first_body b)
-first_or bare b = refl
-first_or (grown i s slug body kids rest) b = refl
-
--- the first that is there, seen through a map
-mapped_first : (a b : Option Page) →
-    cond (is_some (option_map (λ (row : Page). row.body) a)) (option_map (λ (row : Page). row.body) a)
-    (option_map (λ (row : Page). row.body) b)
-    ≡ option_map (λ (row : Page). row.body) (cond (is_some a) a b)
-mapped_first None b = refl
-mapped_first (Some row) b = refl
-
--- what is kept of a page is what its row has
-pub body_in : (id : ℕ) (parent : Option ℕ) (path url : List ℕ) (f : Forest Body) →
-    first_body (node_of id f)
-    ≡ option_map (λ (row : Page). row.body) (row_with id (rows_below parent path url f))
-body_in id parent path url bare = refl
-body_in id parent path url (grown i s slug body kids rest) =
-    by (nat_eq i id) (body_in id (Some i) (path ++ s ∷ []) (child_url url slug) kids)
-    (body_in id parent path url rest)
-  where
-    below : List Page
-    below = rows_below (Some i) (path ++ s ∷ []) (child_url url slug) kids
-
-    behind : List Page
-    behind = rows_below parent path url rest
-
-    by : (t : Bool) →
-        first_body (node_of id kids) ≡ option_map (λ (row : Page). row.body) (row_with id below) →
-        first_body (node_of id rest) ≡ option_map (λ (row : Page). row.body) (row_with id behind) →
-        first_body (cond t (grown i s slug body kids bare)
-        (or_else (node_of id kids) (node_of id rest)))
-        ≡ option_map (λ (row : Page). row.body) (cond t (Some (record {
-          id = i;
-          parent = parent;
-          path = path ++ s ∷ [];
-          url = child_url url slug;
-          slug = slug;
-          numchild = Rattle.page_tree.specs.Walk.kid_count kids;
-          body = body;
-        })) (row_with id (below ++ behind)))
-    by true first second = refl
-    by false first second =
-        first_or (node_of id kids) (node_of id rest)
-        ∙ (rw (first, second) (mapped_first (row_with id below) (row_with id behind))
-        ∙ ap (option_map (λ (row : Page). row.body))
-        (sym (find-append (λ (row : Page). nat_eq row.id id) below behind)))
 
 -- none of two tests passes where none of one does
 none_both : (test live : Page → Bool) (rows : List Page) → find test rows ≡ None →
@@ -258,33 +208,32 @@ module _ (pages : List Page) (tree : Forest Body) (are : ArePages pages)
           (sym (told top found))
           ∙ inner top live same)
 
--- a page is public where its row says so
-pub public_told : (page : ℕ) (tree : Forest Body) (pages : List Page) → pages ≡ rows_of tree →
+-- what is kept of a page is what its row has
+pub kept_told : (page : ℕ) (tree : Forest Body) (pages : List Page) → pages ≡ rows_of tree →
     (row : PageRow) → Some row ≡ option_map page_row (row_with page pages) →
-    row.body.live ≡ is_public (body_of tree page)
-public_told page tree pages is row seen =
+    body_of tree page ≡ Some row.body
+kept_told page tree pages is row seen =
     by (row_with page (rows_of tree)) refl
     (seen ∙ ap (λ rows. option_map page_row (row_with page rows)) is)
   where
     by : (o : Option Page) → row_with page (rows_of tree) ≡ o → Some row ≡ option_map page_row o →
-        row.body.live ≡ is_public (body_of tree page)
+        body_of tree page ≡ Some row.body
     by None e found = absurd (cc)
     by (Some top) e found =
         let same : row ≡ page_row top = cc in
-        ap (λ (r : PageRow). r.body.live) same
-        ∙ sym (ap is_public (body_in page None [] [] tree
-        ∙ ap (option_map (λ (r : Page). r.body)) e))
+        body_in page None [] [] tree
+        ∙ (ap (option_map (λ (r : Page). r.body)) e
+        ∙ sym (ap (λ (r : PageRow). Some r.body) same))
 
--- a page without a row is not public
-pub public_absent : (page : ℕ) (tree : Forest Body) (pages : List Page) → pages ≡ rows_of tree →
-    None ≡ option_map page_row (row_with page pages) → false ≡ is_public (body_of tree page)
-public_absent page tree pages is seen =
+-- nothing is kept of a page without a row
+pub kept_absent : (page : ℕ) (tree : Forest Body) (pages : List Page) → pages ≡ rows_of tree →
+    None ≡ option_map page_row (row_with page pages) → body_of tree page ≡ None
+kept_absent page tree pages is seen =
     by (row_with page (rows_of tree)) refl
     (seen ∙ ap (λ rows. option_map page_row (row_with page rows)) is)
   where
     by : (o : Option Page) → row_with page (rows_of tree) ≡ o → None ≡ option_map page_row o →
-        false ≡ is_public (body_of tree page)
+        body_of tree page ≡ None
     by None e found =
-        sym (ap is_public (body_in page None [] [] tree
-        ∙ ap (option_map (λ (r : Page). r.body)) e))
+        body_in page None [] [] tree ∙ ap (option_map (λ (r : Page). r.body)) e
     by (Some top) e found = absurd (cc)

@@ -16,12 +16,15 @@ later_unbuilt (commands.Create parent slug content) is = absurd (cc)
 later_unbuilt (commands.Move page target position) is = absurd (cc)
 later_unbuilt (commands.Delete page) is = absurd (cc)
 later_unbuilt (commands.SetSlug page slug) is = absurd (cc)
+later_unbuilt (commands.Alias source parent slug) is = absurd (cc)
+later_unbuilt (commands.Detach page) is = absurd (cc)
 later_unbuilt (commands.SaveDesk page content) is = absurd (cc)
 later_unbuilt (commands.OpenDesk page) is = absurd (cc)
 later_unbuilt (commands.ShutDesk page) is = absurd (cc)
 later_unbuilt (commands.File page go_live expire) is = absurd (cc)
 later_unbuilt (commands.Publish page) is = absurd (cc)
 later_unbuilt (commands.Unpublish page) is = absurd (cc)
+later_unbuilt (commands.Unschedule page) is = absurd (cc)
 later_unbuilt (commands.Lock page) is = absurd (cc)
 later_unbuilt (commands.Unlock page) is = absurd (cc)
 later_unbuilt (commands.Purge page) is = absurd (cc)
@@ -29,6 +32,7 @@ later_unbuilt (commands.DefineUser superuser digest) is = absurd (cc)
 later_unbuilt commands.DefineGroup is = absurd (cc)
 later_unbuilt (commands.Member user group on) is = absurd (cc)
 later_unbuilt (commands.Grant group page permission on) is = absurd (cc)
+later_unbuilt commands.Tick is = absurd (cc)
 later_unbuilt _ is = refl
 
 -- a command that is prepared with those on the tree is one of them
@@ -38,6 +42,8 @@ tree_grouped (commands.Create parent slug content) is = refl
 tree_grouped (commands.Move page target position) is = refl
 tree_grouped (commands.Delete page) is = refl
 tree_grouped (commands.SetSlug page slug) is = refl
+tree_grouped (commands.Alias source parent slug) is = refl
+tree_grouped (commands.Detach page) is = refl
 tree_grouped _ is = absurd (cc)
 
 -- a command that is prepared with those on drafts, publishing and people is one of them
@@ -48,6 +54,7 @@ flow_grouped (commands.ShutDesk page) is = refl
 flow_grouped (commands.File page go_live expire) is = refl
 flow_grouped (commands.Publish page) is = refl
 flow_grouped (commands.Unpublish page) is = refl
+flow_grouped (commands.Unschedule page) is = refl
 flow_grouped (commands.Lock page) is = refl
 flow_grouped (commands.Unlock page) is = refl
 flow_grouped (commands.Purge page) is = refl
@@ -55,6 +62,7 @@ flow_grouped (commands.DefineUser superuser digest) is = refl
 flow_grouped commands.DefineGroup is = refl
 flow_grouped (commands.Member user group on) is = refl
 flow_grouped (commands.Grant group page permission on) is = refl
+flow_grouped commands.Tick is = refl
 flow_grouped _ is = absurd (cc)
 
 -- the command that saves a desk saves one

@@ -2,12 +2,11 @@ pub mod CardLemmas
 pub mod LookUpLemmas
 pub mod FindLemmas
 pub mod KidLemmas
-pub mod SlugRows
-pub mod DropLemmas
-pub mod PurgeLemmas
-pub mod MoveCall
+pub mod RefLemmas
 pub mod GroupLemmas
 pub mod PartLemmas
 pub mod KeptLemmas
 pub mod StepDesks
+pub mod StartStep
+pub mod RoomLemmas
 pub mod PrepareLemmas

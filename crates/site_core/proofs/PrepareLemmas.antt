@@ -27,7 +27,7 @@ use Rattle.site_model.specs.Losing.{is_lost}
 use Rattle.site_model.specs.Sound.{KeysRise, IsRegular, IsGiven}
 use Rattle.site_model.specs.Step.{saving, saved, step_by, step_at, with_desks}
 use Rattle.site_model.proofs.LosingSteps.{ended_are}
-use Rattle.site_model.proofs.WorldSound.{own_text_fits}
+use Rattle.site_model.proofs.OwnText.{own_text_fits}
 use Rattle.flat_model.specs.Flat.{lists_of}
 use Rattle.flat_model.specs.Lists.{PartLists}
 use Rattle.flat_model.proofs.ListLemmas.{lists_are, none_out, quiet_revisions, quiet_people}
@@ -39,10 +39,12 @@ use Rattle.grants.specs.Plans as parts
 use Rattle.grants.specs.Plans.{DeskFits, desk_of, pages_of, left_by}
 use Rattle.grants.specs.Standing as parts_stand
 use Rattle.grants.proofs.StandingLemmas.{same_ready}
+use Rattle.part_commits.specs.InStep.{CanStayInStep}
+use Rattle.part_commits.proofs.InStepLemmas.{nothing_stays}
 use Rattle.site_core.specs.Standing.{IsReady, IsSame, HasDeskRoom, HasPlan, Prepares, PlansSaving, kept_text, saving_plan}
 use Rattle.site_core.specs.Texts.{row_of, desk_on, kept_on, OpensWell, desk_left}
-use Rattle.site_core.specs.Ending.{TellsPlan}
-use Rattle.site_core.specs.declared.done.Done.{Done as DoneTold}
+use Rattle.part_commits.specs.Ending.{TellsPlan}
+use Rattle.part_commits.specs.declared.done.Done.{Done as DoneTold}
 use Rattle.site_core.specs.declared.state.Core.{Core}
 use Rattle.site_core.proofs.StepDesks.{TellsDesks, none_on, apart_in, left_is, saved_is}
 
@@ -192,7 +194,8 @@ module _ (core : Core) (world : World) (ready : IsReady core world) where
     module _ (plan : Plan)
         (has : parts.HasPlan after.tree world.part
         (own_text world.desks caller (desk_page command)) now caller command plan)
-        (room : HasDeskRoom after.desks plan.opened) where
+        (room : HasDeskRoom after.desks plan.opened)
+        (stays : CanStayInStep after.tree (lists_of world.part) plan.change) where
       -- a desk is opened on a page without one
       free : (opened : Option Desk) →
           DeskFits (option_map desk_of opened) world.part.desk_pairs →
@@ -275,6 +278,7 @@ module _ (core : Core) (world : World) (ready : IsReady core world) where
         fits = has.can.right.fits;
         pages = shut_ids;
         room = has.can.room;
+        in_step = stays;
         leads = has.can.right.leads;
         opens = opens plan.opened has.can.right.fits.opened room;
         desks_are = desk_is;
@@ -283,23 +287,25 @@ module _ (core : Core) (world : World) (ready : IsReady core world) where
     -- what is told of the tree part is told of the site
     pub prepares : (result : Result Plan Fault) →
         IfOk result (λ plan. HasDeskRoom after.desks plan.opened) →
+        IfOk result (λ plan. CanStayInStep after.tree (lists_of world.part) plan.change) →
         parts.Prepares world.part (kept_text core.desks caller (desk_page command)) now caller
         command after.tree result →
         Prepares world now caller command after result
-    prepares result room told =
-        by result room
+    prepares result room stays told =
+        by result room stays
         (subst (λ text. parts.Prepares world.part text now caller command after.tree result)
         (own_is caller (desk_page command)) told)
       where
         by : (result : Result Plan Fault) →
             IfOk result (λ plan. HasDeskRoom after.desks plan.opened) →
+            IfOk result (λ plan. CanStayInStep after.tree (lists_of world.part) plan.change) →
             parts.Prepares world.part (own_text world.desks caller (desk_page command)) now caller
             command after.tree result →
             Prepares world now caller command after result
-        by (Ok plan) room has = has_plan plan has room
-        by (Err (Refused refusal)) room is =
+        by (Ok plan) room stays has = has_plan plan has room stays
+        by (Err (Refused refusal)) room stays is =
             saves_nothing world now caller command none ∙ ap (with_desks world.desks) is
-        by (Err Memory) room is = tt
+        by (Err Memory) room stays is = tt
 
   module _ (now caller page : ℕ) (content : ContentValue) where
     -- the plan of a text that is saved
@@ -334,6 +340,15 @@ module _ (core : Core) (world : World) (ready : IsReady core world) where
         revisions = omega arith;
         people = omega arith;
         desks = omega arith;
+      };
+      in_step = record {
+        room = record {
+          expiries = omega arith;
+          go_lives = omega arith;
+          aliases = omega arith;
+        };
+        stays = nothing_stays (lists_of world.part) core.tree.time core.tree.next_page
+            core.tree.next_revision;
       };
       leads = leads;
       opens = tt;

@@ -14,7 +14,7 @@ use Rattle.sight_model.specs.Cards.{kid_from, shown_revision}
 abbrev pub told_of : Forest Body → List Revision → Option (Row Body) → Option LiveKid
 told_of tree revisions None = None
 told_of tree revisions (Some row) =
-    if is_live tree row.body then Some (kid_from revisions row) else None
+    if is_live tree row.body then Some (kid_from tree revisions row) else None
 
 -- with what is said of one kid more, if it is live
 abbrev pub with_told : Option LiveKid → List LiveKid → List LiveKid
@@ -31,5 +31,5 @@ kids_told tree revisions pages (id ∷ ids) =
 abbrev pub shown_of : World → ℕ → Option ContentValue
 shown_of world id =
     option_map (λ revision. revision.content)
-    (option_and_then (λ row. shown_revision world.part.revisions row.body)
+    (option_and_then (λ row. shown_revision world.part.tree world.part.revisions row.body)
     (row_with id (rows_of world.part.tree)))

@@ -8,6 +8,8 @@ ghost use Rattle.site_model.specs.Laws.{FitsCommand, FitsDesk};
 ghost use Rattle.site_model.specs.Step.{saving};
 ghost use Rattle.grants.specs.Standing as parts_stand;
 ghost use Rattle.grants.specs.Plans as parts;
+ghost use Rattle.flat_model.specs.Flat.{lists_of};
+ghost use Rattle.part_commits.specs.InStep.{CanStayInStep};
 ghost use Rattle.site_core.specs.Standing.{HasDeskRoom, PlansSaving, kept_text};
 
 use crate::desk_parts::DeskParts;
@@ -33,6 +35,10 @@ pub(crate) fn prepare_step(
     ensures same { parts_stand.IsSame tree.old tree.new }
     ensures lists { desks.new.lists ≡ desks.old.lists }
     ensures room { IfOk result (λ plan. HasDeskRoom desks.new plan.opened) }
+    ensures in_step { (world : worlds.TreePart) → parts_stand.IsReady tree.old world
+        → FitsCommand command.now
+        → FitsDesk world caller (desk_page command.now) (kept_text desks.old caller (desk_page command.now))
+        → IfOk result (λ plan. CanStayInStep tree.new (lists_of world) plan.change) }
     ensures plan { (world : worlds.TreePart) → parts_stand.IsReady tree.old world
         → FitsCommand command.now
         → FitsDesk world caller (desk_page command.now) (kept_text desks.old caller (desk_page command.now))
@@ -40,10 +46,12 @@ pub(crate) fn prepare_step(
         command.now tree.new result }
 {
     let desk = own_desk(desks, command, caller);
-    let plan = prepare(alloc, tree, command, caller, now, desk)?;
-    match make_room(desks, &plan) {
-        Ok(()) => Ok(plan),
-        Err(_) => Err(Fault::Memory),
+    match prepare(alloc, tree, command, caller, now, desk) {
+        Err(fault) => Err(fault),
+        Ok(plan) => match make_room(desks, &plan) {
+            Ok(()) => Ok(plan),
+            Err(_) => Err(Fault::Memory),
+        },
     }
 }
 

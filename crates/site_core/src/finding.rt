@@ -9,7 +9,7 @@ ghost use Rattle.site_model.specs.Views.{body_of};
 ghost use Rattle.site_core.specs.Finding.{live_at};
 
 use page_store::Rows;
-use site_types::PageId;
+use site_types::{Body, PageId};
 use slug_urls::walk;
 
 /// The live page with this URL, or `None` exactly where there is none.
@@ -30,17 +30,26 @@ pub(crate) fn find_live(rows: &Rows, url: &[u8]) -> Option<PageId>
     }
 }
 
-/// Whether a page that is there is live: an alias is live where its source is.
+/// Whether a page that is there is live: an alias is live where its source is. One or two look-ups.
 pub(crate) fn is_live(rows: &Rows, page: PageId) -> bool
     ensures { (tree : Forest PageBody) (row : Row PageBody) → rows.now.pages ≡ rows_of tree
         → row_with page rows.now.pages ≡ Some row → result ≡ views.is_live tree row.body }
 {
     match rows.row(page) {
         None => false,
-        Some(row) => match row.body.source {
-            None => row.body.live,
-            Some(source) => is_public(rows, source),
-        },
+        Some(row) => is_live_by(rows, &row.body),
+    }
+}
+
+/// Whether a page of which this is kept is live: an alias is live where its source is. At most one
+/// look-up.
+pub(crate) fn is_live_by(rows: &Rows, body: &Body) -> bool
+    ensures { (tree : Forest PageBody) → rows.now.pages ≡ rows_of tree
+        → result ≡ views.is_live tree body.now }
+{
+    match body.source {
+        None => body.live,
+        Some(source) => is_public(rows, source),
     }
 }
 

@@ -25,31 +25,31 @@ pub(crate) fn group_of(command: &Command) -> Group
         Command::Create { .. }
         | Command::Move { .. }
         | Command::Delete { .. }
-        | Command::SetSlug { .. } => Group::Tree,
+        | Command::SetSlug { .. }
+        | Command::Alias { .. }
+        | Command::Detach { .. } => Group::Tree,
         Command::OpenDesk { .. }
         | Command::ShutDesk { .. }
         | Command::File { .. }
         | Command::Publish { .. }
         | Command::Unpublish { .. }
+        | Command::Unschedule { .. }
         | Command::Lock { .. }
         | Command::Unlock { .. }
         | Command::Purge { .. }
         | Command::DefineUser { .. }
         | Command::DefineGroup
         | Command::Member { .. }
-        | Command::Grant { .. } => Group::Flow,
+        | Command::Grant { .. }
+        | Command::Tick => Group::Flow,
         Command::SaveDesk { .. } => Group::Save,
-        Command::Alias { .. }
-        | Command::Detach { .. }
-        | Command::Copy { .. }
-        | Command::Unschedule { .. }
+        Command::Copy { .. }
         | Command::DefineTask { .. }
         | Command::DefineWorkflow { .. }
         | Command::Assign { .. }
         | Command::Submit { .. }
         | Command::Approve { .. }
         | Command::Reject { .. }
-        | Command::Cancel { .. }
-        | Command::Tick => Group::Later,
+        | Command::Cancel { .. } => Group::Later,
     }
 }

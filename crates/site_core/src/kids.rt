@@ -8,7 +8,7 @@ ghost use Rattle.sight_model.specs.Cards.{kids_shown};
 ghost use Rattle.site_core.specs.Kids.{told_of};
 
 use crate::card::{find_shown, shown_title};
-use crate::finding::is_live;
+use crate::finding::is_live_by;
 use page_store::Rows;
 use public_view::{LiveKid, MAX_KIDS};
 use revision_shelf::Shelf;
@@ -54,14 +54,14 @@ fn live_kid(
     let Some(row) = rows.row(kid) else {
         return Ok(None);
     };
-    if !is_live(rows, kid) {
+    if !is_live_by(rows, &row.body) {
         return Ok(None);
     }
     let Some(url) = rows.url(kid) else {
         unreachable!()
     };
     let url = url.copy(alloc)?;
-    let title = shown_title(alloc, find_shown(shelf, row.body.shown))?;
+    let title = shown_title(alloc, find_shown(rows, shelf, &row.body))?;
     Ok(Some(LiveKid {
         id: kid,
         title,

@@ -2,26 +2,17 @@
 #![tactic(auto)]
 
 mod asking;
-mod bodies;
 mod card;
 mod desk_parts;
-mod done;
 mod finding;
-mod going;
 mod group;
 mod kids;
-mod making;
-mod moving;
-mod pairs;
 mod part;
-mod people_change;
-mod renaming;
-mod revisions;
+mod references;
 mod showing;
 mod state;
 mod texts;
-mod tree;
 
-pub use done::Done;
-pub use part::{commit, prepare};
+pub use part::prepare;
+pub use part_commits::{Done, commit};
 pub use state::Core;

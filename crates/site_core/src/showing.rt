@@ -7,6 +7,7 @@ ghost use Rattle.sight_model.specs.Cards.{card_of};
 ghost use Rattle.site_core.specs.Kids.{shown_of};
 
 use crate::card::{find_shown, make_card};
+use crate::finding::is_live_by;
 use crate::kids::live_kids;
 use page_store::Rows;
 use public_view::Card;
@@ -16,7 +17,7 @@ use std::alloc::Global;
 
 /// The card of a page, or `None` exactly where there is no such page.
 ///
-/// It costs three look-ups, and a few for each of its first kids; it copies what the card tells.
+/// It costs at most five look-ups, and a few for each of its first kids; it copies what the card tells.
 pub(crate) fn card_in(
     alloc: Global,
     rows: &Rows,
@@ -33,14 +34,15 @@ pub(crate) fn card_in(
     let Some(url) = rows.url(id) else {
         unreachable!()
     };
-    let shown = find_shown(shelf, row.body.shown);
+    let live = is_live_by(rows, &row.body);
+    let shown = find_shown(rows, shelf, &row.body);
     let kids = live_kids(alloc, rows, shelf, id)?;
-    let card = make_card(alloc, row, url, shown, kids)?;
+    let card = make_card(alloc, row, url, live, shown, kids)?;
     Ok(Some(card))
 }
 
-/// The content that a page shows, or `None` exactly if there is no such page or it shows none. Two
-/// look-ups.
+/// The content that a page shows, or `None` exactly if there is no such page or it shows none: an
+/// alias shows its source's. At most three look-ups.
 pub(crate) fn shown_in<'a>(rows: &Rows, shelf: &'a Shelf, id: PageId) -> Option<&'a Content>
     ensures { (world : World) → rows.now.pages ≡ rows_of world.part.tree
         → shelf.now.revisions ≡ world.part.revisions
@@ -49,7 +51,7 @@ pub(crate) fn shown_in<'a>(rows: &Rows, shelf: &'a Shelf, id: PageId) -> Option<
     let Some(row) = rows.row(id) else {
         return None;
     };
-    match find_shown(shelf, row.body.shown) {
+    match find_shown(rows, shelf, &row.body) {
         None => None,
         Some(revision) => Some(&revision.content),
     }

@@ -10,23 +10,26 @@ ghost use Rattle.site_model.specs.Laws.{FitsCommand};
 ghost use Rattle.site_model.specs.Rights as rights;
 ghost use Rattle.sha2.specs.Sha256.{sha256};
 ghost use Rattle.sight_model.specs.Cards.{card_of, live_page, answer_of};
+ghost use Rattle.sight_model.specs.References.{refs_shown};
 ghost use Rattle.site_core.specs.Kids.{shown_of};
 ghost use Rattle.site_core.specs.Standing.{StandsFor, IsReady, IsSame, Prepares, HasPlan};
 
 use crate::asking::{plan_saving, prepare_step};
 use crate::desk_parts::DeskParts;
-use crate::done::Done;
 use crate::finding::find_live;
-use crate::part::commit;
+use crate::references::refs_in;
 use crate::showing::{card_in, shown_in};
 use crate::texts::put_texts;
 use desk_pairs::DeskPairs;
 use grants::{Fault, Grants, Plan, TreePart};
+use link_index::Aliases;
 use page_store::Rows;
+use part_commits::{Done, commit};
 use public_view::Card;
 use revision_shelf::Shelf;
-use site_types::{Command, Content, Digest, Moment, NoMemory, PageId, Reply, Url, UserId};
+use site_types::{Command, Content, Digest, Ids, Moment, NoMemory, PageId, Reply, Url, UserId};
 use std::alloc::Global;
+use time_table::Times;
 
 /// The site in memory.
 #[derive(Debug, Drop)]
@@ -57,6 +60,8 @@ impl Core {
                 time,
                 next_page: 2,
                 next_revision: 1,
+                times: Times::new(alloc),
+                aliases: Aliases::new(alloc),
             },
             desks,
         })
@@ -112,8 +117,8 @@ impl Core {
 
     /// The card of a page with its first live kids, or `None` exactly where there is no such page.
     ///
-    /// It costs three look-ups, and a search and a few look-ups for each kid until a thousand live ones
-    /// are found; it copies what the card tells.
+    /// It costs at most five look-ups, and a search and a few look-ups for each kid until a thousand
+    /// live ones are found; it copies what the card tells.
     pub fn card(&self, alloc: Global, id: PageId) -> Result<Option<Card>, NoMemory>
         ensures { (world : World) → IsReady self.now world → IfOk result (λ card. card ≡ card_of world id) }
     {
@@ -143,6 +148,16 @@ impl Core {
         find_live(&self.tree.rows, url)
     }
 
+    /// The first 1,000 pages that link to a page, rising, or `None` exactly if there is no such page.
+    ///
+    /// It costs at most six look-ups for each page, and looks at each block of their newest contents.
+    pub fn refs(&self, alloc: Global, id: PageId) -> Result<Option<Ids>, NoMemory>
+        ensures { (world : World) → IsReady self.now world
+            → IfOk result (λ refs. refs ≡ refs_shown world id) }
+    {
+        refs_in(alloc, &self.tree.rows, &self.tree.shelf, id)
+    }
+
     /// The URL of a page, or `None` exactly where there is no such page. One look-up.
     pub fn url(&self, id: PageId) -> Option<&Url>
         ensures { (world : World) → IsReady self.now world
@@ -151,8 +166,8 @@ impl Core {
         self.tree.rows.url(id)
     }
 
-    /// The content that a page shows, or `None` exactly if there is no such page or it shows none. Two
-    /// look-ups.
+    /// The content that a page shows, or `None` exactly if there is no such page or it shows none: an
+    /// alias shows its source's. At most three look-ups.
     pub fn shown(&self, id: PageId) -> Option<&Content>
         ensures { (world : World) → IsReady self.now world → option_copied result ≡ shown_of world id }
     {

@@ -7,7 +7,7 @@ ghost use Rattle.site_ids.specs.Ids.{IsPageId};
 ghost use Rattle.site_core.specs.Texts.{kept_on, opened_on, saved_on, desk_left, CanOpen, OpensWell};
 
 use crate::desk_parts::DeskParts;
-use crate::going::page_of;
+use part_commits::page_of;
 use site_types::{Content, Ids, PageId, UserId};
 
 /// Opens, saves and shuts desks, as it was planned. It cannot fail, and takes no memory.

@@ -1,5 +1,6 @@
 -- What an accepted command tells: no rule refused it, and this is what it did.
 use Rattle.std.proofs.Common.{◌≡◌, ℕ, true, not, List, [], ◌∷◌, Option, Some, None, Result, Ok, refl}
+use Rattle.std.specs.Option.{option_and_then}
 use Rattle.site_types.specs.Content.{ContentValue}
 use Rattle.site_types.specs.declared.command.Command.{Command}
 use Rattle.site_types.specs.declared.refusal.Refusal.{Refusal}
@@ -9,7 +10,8 @@ use Rattle.site_types.specs.declared.body.Body.{Body}
 use Rattle.site_model.specs.World.{TreePart, Effect}
 use Rattle.site_model.specs.Rules.{refused_if, no_page, no_pages, are_root}
 use Rattle.site_model.specs.Needs.{denied}
-use Rattle.site_model.specs.Front.{CommandRow, front_by, front_rules}
+use Rattle.site_model.specs.Views.{body_of, view_of}
+use Rattle.site_model.specs.Front.{CommandRow, locked, aliased, locked_by, front_by, front_rules}
 use Rattle.site_model.specs.Desks.{desk_page, settled}
 use Rattle.site_model.specs.Step.{is_built, rules, refusal_of, unless_refused, step_by}
 use Rattle.site_model.specs.Step as steps
@@ -55,12 +57,13 @@ accepted before after told desk now caller command is =
       done = both.1;
     }
 
--- What the first six rules tell that do not refuse.
+-- What the first five rules tell that do not refuse.
 pub record IsFrontClear (part : TreePart) (caller : ℕ) (row : CommandRow)
     (needs : List (Option ℕ)) : Type 0 where
   pub pages : no_pages part.tree row.named ≡ None
   pub below : are_root row.below_root ≡ None
   pub may : denied part caller needs ≡ None
+  pub kind : aliased row.alias (option_and_then (body_of part.tree) row.page) ≡ None
 
 -- the first rules, one by one
 pub front_parts : (part : TreePart) (caller : ℕ) (row : CommandRow) (needs : List (Option ℕ)) →
@@ -69,7 +72,11 @@ front_parts part caller row needs none =
     let pages = first_clear (no_pages part.tree row.named) _ none in
     let below = first_clear (are_root row.below_root) _ pages.1 in
     let may = first_clear (denied part caller needs) _ below.1 in
-    record { pages = pages.0; below = below.0; may = may.0 }
+    let view = option_and_then (view_of part) row.page in
+    let free = first_clear (locked row.lock caller (locked_by view)) _ may.1 in
+    let kind = first_clear (aliased row.alias (option_and_then (body_of part.tree) row.page)) _
+    free.1 in
+    record { pages = pages.0; below = below.0; may = may.0; kind = kind.0 }
 
 -- the first page of those that are named is there, and so are the others
 pub page_found : (tree : Forest Body) (page : ℕ) (pages : List ℕ) →

@@ -30,6 +30,7 @@ use Rattle.site_model.specs.Sound.{IsTree, AreRevisions, IsBody, IsRegular, AreB
 use Rattle.site_model.proofs.ClearLemmas.{first_clear, test_clear, slug_clear, limit_clear, urls_clear, any_front, any_back, own_front, rise_append, not_given}
 use Rattle.site_model.proofs.RowLemmas.{rows_within, rows_too_deep}
 use Rattle.site_model.proofs.Groups.{AreGroups}
+use Rattle.site_model.proofs.RegularLemmas.{KeepRegular, sources_stay}
 
 -- What no rule refused says of a creation.
 record IsClear (part after : TreePart) (parent : ℕ) (slug : List ℕ) : Type 0 where
@@ -290,20 +291,25 @@ revisions_sound part now caller parent slug content sound found fits moment user
       contents_fit = clear.contents;
     }
 
--- an alias that there is not has any source
-pub no_source : (pages : Forest Body) (source : Option ℕ) → source ≡ None →
-    IfSome source (IsRegular pages)
-no_source pages None is = tt
-no_source pages (Some source) is = absurd (cc)
+-- the regular pages are kept where a page comes that is no alias
+pub creation_keeps_regular : (part : TreePart) (caller parent : ℕ) (slug : List ℕ) →
+    IsTree part.tree part.next_page → has_page parent part.tree ≡ true →
+    KeepRegular part.tree (graft parent End (new_page part caller slug) part.tree)
+creation_keeps_regular part caller parent slug sound found page regular = (
+  regular.0,
+  stays_there part caller parent slug sound found page regular.1,
+  AllPages-graft (λ id slug body. id ≡ page → body.source ≡ None) parent End
+      (new_page part caller slug) part.tree ((λ same. refl), tt, tt) regular.2,
+)
 
 -- what is kept of the pages with the new one
 bodies_sound : (part : TreePart) (now caller parent : ℕ) (slug : List ℕ)
     (content : ContentValue) → AreGroups part → has_page parent part.tree ≡ true →
-    caller < part.next_user → AllPages (λ id slug body. body.source ≡ None) part.tree →
+    caller < part.next_user →
     AreBodies (created part now caller parent slug content).tree
     (created part now caller parent slug content).revisions part.next_user part.next_workflow
     part.workflows
-bodies_sound part now caller parent slug content sound found user regular =
+bodies_sound part now caller parent slug content sound found user =
     let tree = part.tree in
     let node = new_page part caller slug in
     let revision = plain_revision part.next_revision part.next_page caller (time_at part now)
@@ -333,21 +339,19 @@ bodies_sound part now caller parent slug content sound found user regular =
           part.next_workflow part.workflows id body (not_new part.next_page id given.1) is)
           sound.bodies.bodies sound.pages.page_ids);
       sources = AllPages-graft (λ id slug body. IfSome body.source (IsRegular after)) parent End
-          node
-          tree (tt, tt, tt)
-          (AllPages-weaker (λ id slug body. body.source ≡ None) _ tree
-          (λ id slug body none. no_source after body.source none) regular);
+          node tree (tt, tt, tt)
+          (sources_stay tree after tree
+          (creation_keeps_regular part caller parent slug sound.pages found) sound.bodies.sources);
     }
 
 -- the world after a creation that no rule refuses is sound
 pub creation_keeps_sound : (part : TreePart) (now caller parent : ℕ) (slug : List ℕ)
-    (content : ContentValue) → AreGroups part →
-    AllPages (λ id slug body. body.source ≡ None) part.tree → has_page parent part.tree ≡ true →
+    (content : ContentValue) → AreGroups part → has_page parent part.tree ≡ true →
     IsSlug slug → FitsLimits content → IsMoment now → caller < part.next_user →
     create_rules part now caller parent slug content ≡ None →
     AreGroups (created part now caller parent slug content)
-creation_keeps_sound part now caller parent slug content sound regular found slugged fits moment
-    user none =
+creation_keeps_sound part now caller parent slug content sound found slugged fits moment user
+    none =
     let after = created part now caller parent slug content in
     let clear = clear part after parent slug none in
     record {
@@ -355,7 +359,7 @@ creation_keeps_sound part now caller parent slug content sound regular found slu
       pages = tree_sound part after caller parent slug sound.pages found slugged refl clear;
       revisions = revisions_sound part now caller parent slug content sound found fits moment user
           clear;
-      bodies = bodies_sound part now caller parent slug content sound found user regular;
+      bodies = bodies_sound part now caller parent slug content sound found user;
       people = sound.people;
       tasks = sound.tasks;
       grants = record {

@@ -1,5 +1,7 @@
--- A deletion keeps a world sound.
-use Rattle.std.proofs.Common.{◌≡◌, ◌<◌, ◌≤◌, ℕ, Bool, true, false, cond, not, List, [], ◌∷◌, length, filter, None, nat_eq, max, suc, refl, arith}
+-- To take a page away with all below it keeps a world sound where no alias elsewhere shows one of
+-- the pages that go, whatever the contents take together.
+use Rattle.std.proofs.Common.{◌≡◌, ◌<◌, ◌≤◌, ℕ, Bool, true, false, cond, not, List, [], ◌∷◌, length, filter, Option, Some, None, nat_eq, max, suc, refl, arith}
+use Rattle.std.specs.Prelude.{IfSome}
 use Rattle.std.specs.List.{AllByRecursion}
 use Rattle.page_tree.specs.Tree.{Forest, bare, grown, has_page, node_of, without}
 use Rattle.step_path.specs.declared.step.TheConstants.{LAST_STEP}
@@ -12,19 +14,18 @@ use Rattle.site_types.specs.declared.world_rows.Grant.{Grant}
 use Rattle.tree_model.specs.Limits.{MAX_URL, height}
 use Rattle.tree_model.specs.Shape.{AllPages}
 use Rattle.tree_model.proofs.CountLemmas.{once, distinct_ids, has_counts, counts_has, none_has, none_counts, either, cut_counts}
-use Rattle.tree_model.proofs.PageLemmas.{AllPages-without, AllPages-weaker, AllPages-both, AllPages-counted}
+use Rattle.tree_model.proofs.PageLemmas.{AllPages-without, AllPages-both, AllPages-counted}
 use Rattle.tree_model.proofs.SiblingLemmas.{AreRising-without, AreWithin-without, SlugsDiffer-without, urls-without}
 use Rattle.tree_model.proofs.WholeLemmas.{whole-without}
 use Rattle.site_model.specs.World.{TreePart}
-use Rattle.site_model.specs.Delete.{without_page}
+use Rattle.site_model.specs.Delete.{is_source_gone, without_page}
 use Rattle.site_model.specs.Users.{grant_key}
-use Rattle.site_model.specs.Sound.{IsTree, AreRevisions, IsBody, HasMoments, AreBodies, AreGrants, IsGiven, IdsRise}
-use Rattle.site_model.proofs.ContentLemmas.{contents_length-filter}
-use Rattle.site_model.proofs.CreationSound.{no_source}
-use Rattle.site_model.proofs.Groups.{AreGroups}
+use Rattle.site_model.specs.Sound.{IsTree, IsBody, HasMoments, IsRegular, AreBodies, AreGrants, IsGiven, IdsRise}
 use Rattle.site_model.proofs.KeptLemmas.{body_kept}
+use Rattle.site_model.proofs.LooseGroups.{LooseRevisions, AreLoose}
 use Rattle.site_model.proofs.OrderLemmas.{all_filter}
 use Rattle.site_model.proofs.OrderLemmas as orders
+use Rattle.site_model.proofs.RegularLemmas.{StayRegular}
 
 -- what a cut leaves is no deeper
 height-without : (id : ℕ) (f : Forest Body) → height (without id f) ≤ height f
@@ -117,8 +118,8 @@ is_left pages next page id sound there kept =
     kept_off false is = refl
 
 -- the revisions that are left
-revisions_left : (part : TreePart) (page : ℕ) → AreGroups part →
-    AreRevisions (without page part.tree)
+revisions_left : (part : TreePart) (page : ℕ) → AreLoose part →
+    LooseRevisions (without page part.tree)
     (filter (is_kept (node_of page part.tree)) part.revisions) part.next_revision part.next_user
 revisions_left part page sound =
     let old = sound.revisions in
@@ -141,18 +142,37 @@ revisions_left part page sound =
       moments = all_filter HasMoments (is_kept gone) part.revisions old.moments;
       contents = all_filter (λ (revision : Revision). FitsLimits revision.content) (is_kept gone)
           part.revisions old.contents;
-      contents_fit =
-          let fewer = contents_length-filter (is_kept gone) part.revisions in
-          omega (arith, fewer, old.contents_fit);
     }
 
+-- no alias that stays shows a page that goes
+abbrev pub LosesNone : TreePart → ℕ → Type 0
+LosesNone part page =
+    AllPages (λ id slug body. is_source_gone (node_of page part.tree) body.source ≡ false)
+    (without page part.tree)
+
+-- the regular pages that are left are regular
+pub left_stay_regular : (tree : Forest Body) (page : ℕ) → StayRegular tree (without page tree)
+left_stay_regular tree page one regular there = (
+  regular.0,
+  there,
+  AllPages-without (λ id slug body. id ≡ one → body.source ≡ None) page tree regular.2,
+)
+
+-- a source that does not go is a regular page that is left
+source_left : (pages : Forest Body) (next page : ℕ) (source : Option ℕ) → IsTree pages next →
+    IfSome source (IsRegular pages) → is_source_gone (node_of page pages) source ≡ false →
+    IfSome source (IsRegular (without page pages))
+source_left pages next page None sound regular stays = tt
+source_left pages next page (Some source) sound regular stays =
+    left_stay_regular pages page source regular
+    (is_left pages next page source sound regular.1 (rw stays refl))
+
 -- what is kept of the pages that are left
-bodies_left : (part : TreePart) (page : ℕ) → AreGroups part →
-    AllPages (λ id slug body. body.source ≡ None) part.tree →
+bodies_left : (part : TreePart) (page : ℕ) → AreLoose part → LosesNone part page →
     AreBodies (without page part.tree)
     (filter (is_kept (node_of page part.tree)) part.revisions) part.next_user part.next_workflow
     part.workflows
-bodies_left part page sound regular =
+bodies_left part page sound none =
     let tree = part.tree in
     let left = without page tree in
     let gone = node_of page tree in
@@ -168,9 +188,11 @@ bodies_left part page sound regular =
           let sum = cut_counts page j tree (each page) in
           let most = each j in
           none_has j gone (omega (arith, sum, most))));
-      sources = AllPages-weaker (λ id slug body. body.source ≡ None) _ left
-          (λ id slug body none. no_source left body.source none)
-          (AllPages-without _ page tree regular);
+      sources = AllPages-both (λ id slug body. IfSome body.source (IsRegular tree))
+          (λ id slug body. is_source_gone gone body.source ≡ false) _ left
+          (λ id slug body regular stays. source_left tree part.next_page page body.source
+          sound.pages regular stays)
+          (AllPages-without _ page tree sound.bodies.sources) none;
     }
 
 -- a test keeps no more than there is
@@ -184,7 +206,7 @@ shorter keep (x ∷ xs) = choice (keep x) (shorter keep xs)
     choice false more = omega (arith, more)
 
 -- the grants that are left
-grants_left : (part : TreePart) (page : ℕ) → AreGroups part →
+grants_left : (part : TreePart) (page : ℕ) → AreLoose part →
     AreGrants (filter (λ grant. not (has_page grant.page (node_of page part.tree))) part.grants)
     (without page part.tree) part.next_group
 grants_left part page sound =
@@ -200,15 +222,14 @@ grants_left part page sound =
       grants_fit = let fewer = shorter keep part.grants in omega (arith, fewer, old.grants_fit);
     }
 
--- the world after a deletion that no rule refuses is sound
-pub deletion_keeps_sound : (part : TreePart) (now page : ℕ) → AreGroups part →
-    AllPages (λ id slug body. body.source ≡ None) part.tree → IsMoment now → (1 ≡ page → ⊥) →
-    AreGroups (without_page part now page)
-deletion_keeps_sound part now page sound regular moment other = record {
+-- the world that is left is sound, whatever its contents take together
+pub cut_keeps_sound : (part : TreePart) (now page : ℕ) → AreLoose part → LosesNone part page →
+    IsMoment now → (1 ≡ page → ⊥) → AreLoose (without_page part now page)
+cut_keeps_sound part now page sound none moment other = record {
   time = omega (arith, sound.time, moment);
   pages = tree_left part.tree part.next_page page sound.pages other;
   revisions = revisions_left part page sound;
-  bodies = bodies_left part page sound regular;
+  bodies = bodies_left part page sound none;
   people = sound.people;
   tasks = sound.tasks;
   grants = grants_left part page sound;

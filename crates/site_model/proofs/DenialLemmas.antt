@@ -13,7 +13,7 @@ use Rattle.site_model.specs.Rules.{refused_if, first_of, ids_full, content_full}
 use Rattle.site_model.specs.Views.{body_of}
 use Rattle.site_model.specs.Bodies.{latest_of, has_body}
 use Rattle.site_model.specs.Desks.{no_desk, desk_user, open_rules, filed_revision, is_filed, file_rules}
-use Rattle.site_model.specs.Publishing.{has_expired, expires_first, is_out, publish_rules, unpublish_rules, lock_rules, unlock_rules, purged, purge_rules}
+use Rattle.site_model.specs.Publishing.{has_expired, expires_first, is_out, publish_rules, unpublish_rules, unschedule_rules, lock_rules, unlock_rules, purged, purge_rules}
 
 -- whether a refusal says that a need is not met
 abbrev pub is_denied : Option Refusal → Bool
@@ -105,6 +105,12 @@ publish_says part now page (Some revision) =
 pub unpublish_says : (part : TreePart) (page : ℕ) → is_denied (unpublish_rules part page) ≡ false
 unpublish_says part page =
     test_says (not (has_body (λ body. body.live) (body_of part.tree page))) NotLive refl
+
+-- nor that of emptying a schedule
+pub unscheduling_says : (part : TreePart) (page : ℕ) →
+    is_denied (unschedule_rules part page) ≡ false
+unscheduling_says part page =
+    new_says (has_body (λ body. is_none body.scheduled) (body_of part.tree page))
 
 -- nor those of locks
 pub locking_says : (caller : ℕ) → is_denied (lock_rules caller) ≡ false

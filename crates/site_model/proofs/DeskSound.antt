@@ -8,7 +8,7 @@ use Rattle.page_tree.specs.Rows.{comes_before}
 use Rattle.site_types.specs.Content.{FitsLimits}
 use Rattle.site_types.specs.declared.body.Body.{Body}
 use Rattle.tree_model.proofs.CountLemmas.{none_counts, node_absent}
-use Rattle.tree_model.proofs.PageLemmas.{AllPages-weaker, all_weaker}
+use Rattle.tree_model.proofs.PageLemmas.{all_weaker}
 use Rattle.site_model.specs.World.{DeskPair, Desk, TreePart, Deed, pair_of}
 use Rattle.site_model.specs.Limits.{MAX_DESKS}
 use Rattle.site_model.specs.Rights.{rights_of, above_of}
@@ -16,7 +16,6 @@ use Rattle.site_model.specs.Views.{View, first_body, view_of}
 use Rattle.site_model.specs.Users.{put_in}
 use Rattle.site_model.specs.Desks.{desk_key, desk_opened, is_shut, with_pair, with_desk, is_ended, keeps_desk, stays, settled}
 use Rattle.site_model.specs.Sound.{KeysRise, AreDesks, IsRegular, IsSoundPart}
-use Rattle.site_model.specs.Reached.{HasNoAlias}
 use Rattle.site_model.proofs.Deeds.{MayOpen, KeepsSound}
 use Rattle.site_model.proofs.DeletionSound.{shorter}
 use Rattle.site_model.proofs.DeskLemmas.{settled_stay}
@@ -48,16 +47,6 @@ desk_has_page part pair stay = choice (has_page pair.page part.tree) refl
         let lost = nothing_seen part pair (view_of part pair.page) unseen in
         absurd (both_values (sym stay ∙ lost))
 
--- a page of a desk is a regular one, where no page is an alias
-regular_desk : (part : TreePart) (page : ℕ) → HasNoAlias part.tree →
-    (page ≡ 1 → ⊥) → has_page page part.tree ≡ true → IsRegular part.tree page
-regular_desk part page regular below there = (
-  below,
-  there,
-  AllPages-weaker (λ id slug body. body.source ≡ None) (λ id slug body. id ≡ page →
-      body.source ≡ None) part.tree (λ id slug body is same. is) regular,
-)
-
 -- a test with the pages of desks is one of desks
 pub map_filter : (keep : DeskPair → Bool) (desks : List Desk) →
     map pair_of (filter (λ (desk : Desk). keep (pair_of desk)) desks)
@@ -86,31 +75,30 @@ both_all : {X : Type 0} (P Q R : X → Type 0) (xs : List X) → ((x : X) → P 
 both_all P Q R [] both p q = tt
 both_all P Q R (x ∷ xs) both p q = (both x p.0 q.0, both_all P Q R xs both p.1 q.1)
 
--- Open desks that are in order, of which nobody has looked yet whether they stay.
-record ArePairs (users : ℕ) (pairs : List DeskPair) : Type 0 where
+-- Open desks on pages of this tree that are in order, of which nobody has looked yet whether they
+-- stay.
+record ArePairs (tree : Forest Body) (users : ℕ) (pairs : List DeskPair) : Type 0 where
   rise : KeysRise desk_key pairs
   fit : length pairs ≤ MAX_DESKS
   of_users : AllByRecursion (λ (pair : DeskPair). pair.user < users) pairs
-  below : AllByRecursion (λ (pair : DeskPair). pair.page ≡ 1 → ⊥) pairs
+  regular : AllByRecursion (λ (pair : DeskPair). IsRegular tree pair.page) pairs
 
 -- the desks of a sound part are, also where there are more users
 old_pairs : (part : TreePart) (users : ℕ) → AreDesks part → part.next_user ≤ users →
-    ArePairs users part.desk_pairs
+    ArePairs part.tree users part.desk_pairs
 old_pairs part users desks more = record {
   rise = desks.desks_rise;
   fit = desks.desks_fit;
   of_users = all_weaker (λ (pair : DeskPair). pair.user < part.next_user)
       (λ (pair : DeskPair). pair.user < users) part.desk_pairs
       (λ pair lower. omega (arith, lower, more)) desks.desk_users;
-  below = all_weaker (λ (pair : DeskPair). IsRegular part.tree pair.page)
-      (λ (pair : DeskPair). pair.page ≡ 1 → ⊥) part.desk_pairs (λ pair is. is.0)
-      desks.desks_regular;
+  regular = desks.desks_regular;
 }
 
 -- so are they with one more that may be opened
 with_opened : (part : TreePart) (users : ℕ) (opened : Option Desk) → AreDesks part →
     part.next_user ≤ users → IfSome opened (MayOpen part) →
-    ArePairs users (with_pair opened part.desk_pairs)
+    ArePairs part.tree users (with_pair opened part.desk_pairs)
 with_opened part users None desks more may = old_pairs part users desks more
 with_opened part users (Some desk) desks more may =
     let old = old_pairs part users desks more in
@@ -124,8 +112,8 @@ with_opened part users (Some desk) desks more may =
       fit = let longer = length-put_in desk_key new pairs in omega (arith, longer, may.room);
       of_users = all_put (λ (pair : DeskPair). pair.user < users) desk_key new pairs
           (omega (arith, may.user, more)) old.of_users;
-      below = all_put (λ (pair : DeskPair). pair.page ≡ 1 → ⊥) desk_key new pairs may.below
-          old.below;
+      regular = all_put (λ (pair : DeskPair). IsRegular part.tree pair.page) desk_key new pairs
+          may.regular old.regular;
     }
   where
     same_key : (x y : ℕ) → x ∷ [] ≡ y ∷ [] → x ≡ y
@@ -138,7 +126,8 @@ settled_desks part caller page deed desks kept =
     let opened = desk_opened caller page deed.opened in
     let pairs = with_pair opened deed.part.desk_pairs in
     let keep = λ (pair : DeskPair). not (is_ended (ended_pairs caller page deed) pair) in
-    let all = subst (λ (list : List DeskPair). ArePairs deed.part.next_user (with_pair opened list))
+    let all = subst
+    (λ (list : List DeskPair). ArePairs part.tree deed.part.next_user (with_pair opened list))
     (sym kept.pairs)
     (with_opened part deed.part.next_user opened desks kept.users kept.opened) in
     let stay = settled_stay caller page deed in
@@ -148,10 +137,10 @@ settled_desks part caller page deed desks kept =
       desk_users = all_filter (λ (pair : DeskPair). pair.user < deed.part.next_user) keep pairs
           all.of_users;
       desks_stay = stay;
-      desks_regular = both_all _ (λ (pair : DeskPair). pair.page ≡ 1 → ⊥) _ (filter keep pairs)
-          (λ pair is other. regular_desk deed.part pair.page kept.regular other
-          (desk_has_page deed.part pair is)) stay
-          (all_filter (λ (pair : DeskPair). pair.page ≡ 1 → ⊥) keep pairs all.below);
+      desks_regular = both_all _ (λ (pair : DeskPair). IsRegular part.tree pair.page) _
+          (filter keep pairs)
+          (λ pair is regular. kept.regular pair.page regular (desk_has_page deed.part pair is)) stay
+          (all_filter (λ (pair : DeskPair). IsRegular part.tree pair.page) keep pairs all.regular);
     }
 
 -- a sound part stays one

@@ -1,5 +1,5 @@
--- To file the text of a desk keeps a world without aliases sound.
-use Rattle.std.proofs.Common.{◌≡◌, ◌+◌, ◌<◌, ◌≤◌, ℕ, true, List, [], ◌∷◌, ◌++◌, Option, Some, None, sym, arith}
+-- To file the text of a desk keeps a world sound.
+use Rattle.std.proofs.Common.{◌≡◌, ◌+◌, ◌<◌, ◌≤◌, ℕ, true, List, [], ◌∷◌, ◌++◌, Option, Some, None, refl, sym, arith}
 use Rattle.std.specs.Prelude.{IfSome}
 use Rattle.std.specs.List.{AllByRecursion}
 use Rattle.std.specs.Option.{option_or}
@@ -15,7 +15,7 @@ use Rattle.site_types.specs.declared.refusal.Refusal.TheVariants.{NothingNew, Id
 use Rattle.site_types.specs.declared.revision.Revision.{Revision}
 use Rattle.site_types.specs.declared.world_rows.Grant.{Grant}
 use Rattle.tree_model.proofs.CountLemmas.{once}
-use Rattle.tree_model.proofs.PageLemmas.{AllPages-weaker, AllPages-both, all_weaker}
+use Rattle.tree_model.proofs.PageLemmas.{AllPages-both, all_weaker}
 use Rattle.tree_model.proofs.SiblingLemmas.{all_append}
 use Rattle.site_model.specs.World.{TreePart}
 use Rattle.site_model.specs.Limits.{MAX_CONTENTS, contents_length}
@@ -23,20 +23,19 @@ use Rattle.site_model.specs.Rules.{refused_if, ids_full, content_full}
 use Rattle.site_model.specs.Bodies.{latest_of}
 use Rattle.site_model.specs.Moderations.{WasFiled, moved_on, after_filing}
 use Rattle.site_model.specs.Desks.{filed_revision, with_filed, is_filed, file_rules}
-use Rattle.site_model.specs.Sound.{AreRevisions, IsBody, AreBodies, FitsModeration, HasMoments, IsAtMost}
-use Rattle.site_model.specs.Reached.{HasNoAlias}
+use Rattle.site_model.specs.Sound.{AreRevisions, IsBody, IsRegular, AreBodies, FitsModeration, HasMoments, IsAtMost}
 use Rattle.site_model.proofs.BodyLemmas.{AllPages-changed, tree_rebodied, there-rebodied}
 use Rattle.site_model.proofs.BodySound.{IsKept, no_alias, body_keeps_regular}
 use Rattle.site_model.proofs.ClearLemmas.{first_clear, test_clear, limit_clear, own_front, rise_append}
-use Rattle.site_model.proofs.CreationSound.{own_back, waits_front, moderation_front, body_front, no_source}
+use Rattle.site_model.proofs.CreationSound.{own_back, waits_front, moderation_front, body_front}
 use Rattle.site_model.proofs.Groups.{AreGroups}
+use Rattle.site_model.proofs.RegularLemmas.{sources_stay, sources_rebodied}
 
 -- What to file asks of the caller, the page, the text and the two moments.
 pub record MayFile (part : TreePart) (caller page : ℕ) (text : ContentValue)
     (go_live expire : Option ℕ) : Type 0 where
   pub user : caller < part.next_user
-  pub below : page ≡ 1 → ⊥
-  pub there : has_page page part.tree ≡ true
+  pub regular : IsRegular part.tree page
   pub fits : FitsLimits text
   pub live_at : IfSome go_live IsMoment
   pub ends_at : IfSome expire IsMoment
@@ -155,9 +154,9 @@ revisions_filed part now caller page text go_live expire sound moment may left =
           part.revisions
           (λ revision there. there-rebodied page revision.page change tree there)
           old.revisions_have_pages)
-          (there-rebodied page page change tree may.there, tt);
+          (there-rebodied page page change tree may.regular.1, tt);
       revisions_below_root = all_append (λ (revision : Revision). revision.page ≡ 1 → ⊥)
-          part.revisions (revision ∷ []) old.revisions_below_root (may.below, tt);
+          part.revisions (revision ∷ []) old.revisions_below_root (may.regular.0, tt);
       authors = all_append (λ (revision : Revision). revision.by < part.next_user) part.revisions
           (revision ∷ []) old.authors (may.user, tt);
       moments = all_append HasMoments part.revisions (revision ∷ []) old.moments (
@@ -175,39 +174,39 @@ revisions_filed part now caller page text go_live expire sound moment may left =
 
 -- what is kept of the pages, beside the revisions with the one that is filed
 bodies_filed : (part : TreePart) (now caller page : ℕ) (text : ContentValue)
-    (go_live expire : Option ℕ) → AreGroups part → HasNoAlias part.tree → (page ≡ 1 → ⊥) →
+    (go_live expire : Option ℕ) → AreGroups part → IsRegular part.tree page →
     AreBodies (with_filed part now caller page text go_live expire).tree
     (with_filed part now caller page text go_live expire).revisions part.next_user
     part.next_workflow part.workflows
-bodies_filed part now caller page text go_live expire sound regular below =
+bodies_filed part now caller page text go_live expire sound regular =
     let tree = part.tree in
     let after = (with_filed part now caller page text go_live expire).tree in
     let new = filed_revision part now caller page text go_live expire in
     record {
       bodies = AllPages-changed page (filed_body part.next_revision)
-          (λ id slug body. IsKept part id body × (body.source ≡ None))
+          (λ id slug body. IsKept part id body × (id ≡ page → body.source ≡ None))
           (λ id slug body. IsBody (part.revisions ++ new ∷ []) part.next_user part.next_workflow
           part.workflows id body) tree (once tree sound.pages.distinct page)
-          (λ slug body both. body_filed part new body below sound.revisions.revision_ids both.0
-          both.1)
+          (λ slug body both. body_filed part new body regular.0 sound.revisions.revision_ids both.0
+          (both.1 refl))
           (λ id slug body other both. body_front part.revisions new part.next_user
           part.next_workflow part.workflows id body (λ same. other (sym same)) both.0)
           (AllPages-both (λ id slug body. IsKept part id body)
-          (λ id slug body. body.source ≡ None)
-          (λ id slug body. IsKept part id body × (body.source ≡ None)) tree
-          (λ id slug body kept none. (kept, none)) sound.bodies.bodies regular);
-      sources = AllPages-weaker (λ id slug body. body.source ≡ None) _ after
-          (λ id slug body none. no_source after body.source none)
-          (body_keeps_regular part page (filed_body part.next_revision) regular (λ body is. is));
+          (λ id slug body. id ≡ page → body.source ≡ None) _ tree
+          (λ id slug body kept none. (kept, none)) sound.bodies.bodies regular.2);
+      sources = sources_stay tree after after
+          (body_keeps_regular tree page (filed_body part.next_revision) (λ body. refl))
+          (sources_rebodied page (filed_body part.next_revision) tree tree (λ body is. is)
+          sound.bodies.sources);
     }
 
 -- to file a text that no rule refuses keeps a world sound
 pub filing_keeps_sound : (part : TreePart) (now caller page : ℕ) (text : ContentValue)
-    (go_live expire : Option ℕ) → AreGroups part → HasNoAlias part.tree → IsMoment now →
+    (go_live expire : Option ℕ) → AreGroups part → IsMoment now →
     MayFile part caller page text go_live expire →
     file_rules part now caller page go_live expire (Some text) ≡ None →
     AreGroups (with_filed part now caller page text go_live expire)
-filing_keeps_sound part now caller page text go_live expire sound regular moment may none =
+filing_keeps_sound part now caller page text go_live expire sound moment may none =
     let tree = part.tree in
     let change = filed_body part.next_revision in
     let after = (with_filed part now caller page text go_live expire).tree in
@@ -216,7 +215,7 @@ filing_keeps_sound part now caller page text go_live expire sound regular moment
       time = omega (arith, sound.time, moment);
       pages = tree_rebodied tree part.next_page page change sound.pages;
       revisions = revisions_filed part now caller page text go_live expire sound moment may left;
-      bodies = bodies_filed part now caller page text go_live expire sound regular may.below;
+      bodies = bodies_filed part now caller page text go_live expire sound may.regular;
       people = sound.people;
       tasks = sound.tasks;
       grants = record {

@@ -1,5 +1,4 @@
--- Schedules, moderations, aliases and copies at worked values: rules and effects which stand though
--- no request asks for them yet.
+-- Schedules, moderations, aliases and copies at worked values.
 use Rattle.std.proofs.Common.{◌≡◌, ℕ, true, false, List, [], ◌∷◌, refl, codes, Option, Some, None}
 use Rattle.page_tree.specs.Walk.{url_of}
 use Rattle.step_path.specs.Path.{path_text}
@@ -27,23 +26,23 @@ done now command part =
     settled 1 (desk_page command) (effect part (Some (titled (codes "z"))) now 1 command)
 
 -- the part after it
-abbrev then : ℕ → Command → TreePart → TreePart
+abbrev pub then : ℕ → Command → TreePart → TreePart
 then now command part = (done now command part).0
 
 -- its reply
-abbrev reply : ℕ → Command → TreePart → Reply
+abbrev pub reply : ℕ → Command → TreePart → Reply
 reply now command part = (done now command part).1.reply
 
 -- why it is refused by a rule of its own
-abbrev refused : ℕ → Command → TreePart → Option Refusal
+abbrev pub refused : ℕ → Command → TreePart → Option Refusal
 refused now command part = rules part (Some (titled (codes "z"))) now 1 command
 
 -- a new page below a parent
-abbrev make : ℕ → List ℕ → TreePart → TreePart
+abbrev pub make : ℕ → List ℕ → TreePart → TreePart
 make parent slug part = then 0 (commands.Create parent slug (titled slug)) part
 
 -- a site with page 2, p
-abbrev with_p : TreePart
+abbrev pub with_p : TreePart
 with_p = make 1 (codes "p") fresh
 
 -- whose second revision goes live at moment 5 and is published

@@ -6,6 +6,7 @@ pub mod RoomLemmas
 pub mod FullLemmas
 pub mod AcceptLemmas
 pub mod Groups
+pub mod LooseGroups
 pub mod Deeds
 pub mod StrangerLemmas
 pub mod KeptLemmas
@@ -17,6 +18,7 @@ pub mod SlugSound
 pub mod PeopleSound
 pub mod GrantSound
 pub mod BodyLemmas
+pub mod RegularLemmas
 pub mod BodySound
 pub mod PublishSound
 pub mod PurgeSound
@@ -27,6 +29,7 @@ pub mod StepSound
 pub mod ViewLemmas
 pub mod DeskLemmas
 pub mod DeskSound
+pub mod OwnText
 pub mod WorldSound
 pub mod SettledLemmas
 pub mod StripeLemmas
@@ -36,12 +39,32 @@ pub mod ReachedSound
 pub mod RightLemmas
 pub mod EditNeedLemmas
 pub mod DenialLemmas
+pub mod PageDenials
 pub mod SuperLemmas
 pub mod CreateLemmas
+pub mod FlowLemmas
+pub mod NeedLemmas
+pub mod SourceLemmas
+pub mod DetachSound
+pub mod AliasesLeft
+pub mod GraftSound
+pub mod AliasSound
+pub mod LiveLemmas
+pub mod DueLemmas
+pub mod TickSound
+pub mod CopyLemmas
+pub mod RiseLemmas
+pub mod CopySound
+pub mod CopyStepSound
 pub mod LosingTrees
 pub mod LosingRights
 pub mod LosingLemmas
 pub mod LosingBodies
+pub mod EachDetached
+pub mod DetachedForm
+pub mod DeletedForm
+pub mod AliasesTold
+pub mod DeletingSound
 pub mod LosingPeople
 pub mod LosingStages
 pub mod LosingPages
@@ -60,5 +83,6 @@ mod NeedExamples
 mod DeskExamples
 mod StepExamples
 mod LaterExamples
+mod DeletingExamples
 mod SoundExamples
 mod LosingExamples

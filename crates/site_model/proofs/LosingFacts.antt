@@ -1,8 +1,8 @@
 -- What deletions, locks, publishing, memberships and grants do to open desks.
 use Rattle.std.proofs.Common.{◌≡◌, ℕ, Bool, true, false, not, ◌&&◌, nat_eq, List, [], ◌∷◌, filter, Option, Some, None, Ok, is_some, refl, sym, ap, subst, ◌∙◌, arith}
 use Rattle.std.specs.Prelude.{IfSome}
-use Rattle.std.specs.List.{AllByRecursion}
-use Rattle.page_tree.specs.Tree.{without}
+use Rattle.std.specs.List.{AllByRecursion, list_any}
+use Rattle.page_tree.specs.Tree.{HasDistinctIds, without}
 use Rattle.site_types.specs.Content.{ContentValue}
 use Rattle.site_types.specs.declared.body.Body.{Body}
 use Rattle.site_types.specs.declared.command.Command.TheVariants.{Delete, Publish, Lock, Member, Grant}
@@ -17,7 +17,7 @@ use Rattle.site_model.specs.Rules.{refused_if}
 use Rattle.site_model.specs.Views.{View, may_edit}
 use Rattle.site_model.specs.Users.{members_after, grants_after}
 use Rattle.site_model.specs.Bodies.{latest_of}
-use Rattle.site_model.specs.Delete.{without_page}
+use Rattle.site_model.specs.Delete.{aliases_left, each_detached, without_page}
 use Rattle.site_model.specs.Moderations.{after_publishing}
 use Rattle.site_model.specs.Publishing.{published_body, publish}
 use Rattle.site_model.specs.Front.{StopsOthers, locked, in_moderation}
@@ -30,8 +30,9 @@ use Rattle.site_model.specs.Reached.{HasNoModeration}
 use Rattle.site_model.specs.LosingLaws.{desks_within, desks_of_others}
 use Rattle.site_model.proofs.AcceptLemmas.{accepted}
 use Rattle.site_model.proofs.DeskSound.{desk_has_page}
+use Rattle.site_model.proofs.EachDetached.{each_distinct, each_way}
 use Rattle.site_model.proofs.ViewLemmas.{seen}
-use Rattle.site_model.proofs.LosingTrees.{way_to, way_changed, cut_within, way-rebodied}
+use Rattle.site_model.proofs.LosingTrees.{way_to, passes, way_changed, cut_within, way-rebodied}
 use Rattle.site_model.proofs.LosingRights.{viewed_at, stays_at, stays_by_way, both_hold}
 use Rattle.site_model.proofs.LosingLemmas.{filter_alike}
 use Rattle.site_model.proofs.LosingBodies.{same_seen, body_changed, same_stays}
@@ -59,20 +60,21 @@ filter_none test [] none = refl
 filter_none test (pair ∷ pairs) none = rw (none.0, filter_none test pairs none.1) refl
 
 -- a desk on a page that is deleted does not stay
-pub gone_stays : (part : TreePart) (now page : ℕ) (pair : DeskPair) → IsSoundPart part →
-    is_within part.tree page pair.page ≡ true → stays (without_page part now page) pair ≡ false
-gone_stays part now page pair sound within = choice (stays (without_page part now page) pair) refl
+pub gone_stays : (part : TreePart) (now page : ℕ) (pair : DeskPair) → HasDistinctIds part.tree →
+    passes page (way_to pair.page part.tree) ≡ true →
+    stays (without_page part now page) pair ≡ false
+gone_stays part now page pair distinct within =
+    choice (stays (without_page part now page) pair) refl
   where
     choice : (t : Bool) → stays (without_page part now page) pair ≡ t →
         stays (without_page part now page) pair ≡ false
     choice false is = is
     choice true is =
-        let each = once part.tree sound.pages.distinct in
+        let each = once part.tree distinct in
         let most = each pair.page in
         let left = has_counts pair.page (without page part.tree)
         (desk_has_page (without_page part now page) pair is) in
-        let gone = cut_within pair.page page part.tree (each page)
-        (is_passed part page pair.page within) in
+        let gone = cut_within pair.page page part.tree (each page) within in
         let cut = cut_counts page pair.page part.tree (each page) in
         let never : ⊥ = omega (arith, most, left, gone, cut) in absurd never
 
@@ -92,9 +94,15 @@ unfolding steps.effect desk_page suspects_of shuts
 deletion_ends_all before after told desk now caller page sound is =
     let one = accepted before after told desk now caller (Delete page) is in
     let all = ended_are before after told desk now caller (Delete page) sound is in
+    let aliases = aliases_left before page in
     let lost = λ (pair : DeskPair) (within : is_within before.tree page pair.page ≡ true).
     settled_as after told caller None (steps.effect before desk now caller (Delete page)) pair
-    one.done ∙ gone_stays before now page pair sound within in (
+    one.done
+    ∙ gone_stays (each_detached now caller aliases before) now page pair
+    (each_distinct now caller aliases before sound.pages.distinct)
+    (ap (λ (ids : List ℕ). list_any (λ (id : ℕ). nat_eq id page) ids)
+    (each_way now caller aliases before pair.page)
+    ∙ is_passed before page pair.page within) in (
       lost,
       all.ended
           ∙ filter_alike (is_lost before after caller (Delete page))

@@ -1,24 +1,25 @@
 -- Which desks the commands on pages may end.
 use Rattle.std.proofs.Common.{◌≡◌, ℕ, Bool, true, false, nat_eq, List, Option, refl, sym, ap, ◌∙◌, arith}
 use Rattle.std.specs.List.{list_any}
-use Rattle.page_tree.specs.Tree.{End, has_page, node_of, without}
+use Rattle.page_tree.specs.Tree.{HasDistinctIds, End, has_page, node_of, without}
 use Rattle.site_types.specs.Content.{ContentValue}
 use Rattle.site_types.specs.declared.body.Body.{Body}
 use Rattle.site_types.specs.declared.command.Command.TheVariants.{Create, Move, Delete, SetSlug, Alias, Detach, Copy}
 use Rattle.site_types.specs.declared.position.Position.{Position}
 use Rattle.tree_model.specs.Places.{parent_at, place_at}
 use Rattle.tree_model.proofs.CountLemmas.{once, cut_counts, none_has}
-use Rattle.site_model.specs.World.{TreePart, time_at}
+use Rattle.site_model.specs.World.{DeskPair, TreePart, time_at}
 use Rattle.site_model.specs.Create.{new_page, fresh_body}
-use Rattle.site_model.specs.Delete.{without_page}
+use Rattle.site_model.specs.Delete.{aliases_left, each_detached, without_page}
 use Rattle.site_model.specs.Moves.{with_move}
 use Rattle.site_model.specs.Slugs.{with_slug}
 use Rattle.site_model.specs.Aliases.{source_of, alias_body, detached_body}
 use Rattle.site_model.specs.Copies.{to_copy, copies, with_first_slug}
-use Rattle.site_model.specs.Desks.{desk_page}
+use Rattle.site_model.specs.Desks.{desk_page, stays}
 use Rattle.site_model.specs.Step as steps
 use Rattle.site_model.specs.Sound.{IsSoundPart}
 use Rattle.site_model.specs.Losing.{suspects_of, is_within, shuts}
+use Rattle.site_model.proofs.EachDetached.{each_distinct, each_desks, each_stays, each_way}
 use Rattle.site_model.proofs.LosingTrees.{way_to, ids_on, passes, walked_ids, passes_counts, way-without, way-cut, way-graft, way-renamed}
 use Rattle.site_model.proofs.LosingRights.{viewed_at, more_stays}
 use Rattle.site_model.proofs.LosingLemmas.{EndsFew}
@@ -120,36 +121,48 @@ is_passed part page inner within =
     (sym (walked_ids inner part.tree)) ∙ within
 
 -- a grant at a page on the way to one that stays is kept
-grant_stays : (part : TreePart) (page inner at : ℕ) → IsSoundPart part →
+grant_stays : (part : TreePart) (page inner at : ℕ) → HasDistinctIds part.tree →
     passes page (way_to inner part.tree) ≡ false → passes at (way_to inner part.tree) ≡ true →
     has_page at (node_of page part.tree) ≡ false
-grant_stays part page inner at sound free among =
+grant_stays part page inner at distinct free among =
     let kept = way-without inner page part.tree free in
     let some = passes_counts inner at (without page part.tree)
     (ap (λ (way : Option (List ℕ × Body)). passes at way) kept ∙ among) in
-    let each = once part.tree sound.pages.distinct in
+    let each = once part.tree distinct in
     let most = each at in
     let cut = cut_counts page at part.tree (each page) in
     none_has at (node_of page part.tree) (omega (arith, some, most, cut))
+
+-- what is not on the page or below it stays where these go
+cut_stays : (part : TreePart) (now page : ℕ) (pair : DeskPair) → HasDistinctIds part.tree →
+    passes page (way_to pair.page part.tree) ≡ false → stays part pair ≡ true →
+    stays (without_page part now page) pair ≡ true
+cut_stays part now page pair distinct free stay =
+    more_stays part (without_page part now page) pair
+    (ap (λ (way : Option (List ℕ × Body)). viewed_at part way)
+    (way-without pair.page page part.tree free))
+    (grants_kept part (ids_on (way_to pair.page part.tree))
+    (λ grant. has_page grant.page (node_of page part.tree)) pair.user
+    (λ grant mine among. grant_stays part page pair.page grant.page distinct free among)) stay
 
 -- a deletion ends desks on the page and below it alone
 pub delete_few : (part : TreePart) (desk : Option ContentValue) (now caller page : ℕ) →
     IsSoundPart part →
     EndsFew part caller (Delete page) (steps.effect part desk now caller (Delete page))
 unfolding steps.effect desk_page suspects_of shuts
-delete_few part desk now caller page sound = record {
-  shut = refl;
-  pairs = refl;
-  opened = tt;
-  others = λ pair user stay apart.
-      let free = not_passed part page pair.page apart in
-      more_stays part (without_page part now page) pair
-      (ap (λ (way : Option (List ℕ × Body)). viewed_at part way)
-      (way-without pair.page page part.tree free))
-      (grants_kept part (ids_on (way_to pair.page part.tree))
-      (λ grant. has_page grant.page (node_of page part.tree)) pair.user
-      (λ grant mine among. grant_stays part page pair.page grant.page sound free among)) stay;
-}
+delete_few part desk now caller page sound =
+    let aliases = aliases_left part page in
+    record {
+      shut = refl;
+      pairs = each_desks now caller aliases part;
+      opened = tt;
+      others = λ pair user stay apart.
+          cut_stays (each_detached now caller aliases part) now page pair
+          (each_distinct now caller aliases part sound.pages.distinct)
+          (ap (λ (ids : List ℕ). list_any (λ (one : ℕ). nat_eq one page) ids)
+          (each_way now caller aliases part pair.page) ∙ not_passed part page pair.page apart)
+          (each_stays now caller aliases part pair ∙ stay);
+    }
 
 -- a move ends desks on the page and below it alone
 pub move_few : (part : TreePart) (desk : Option ContentValue) (now caller page target : ℕ)

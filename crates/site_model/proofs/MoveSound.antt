@@ -1,5 +1,6 @@
 -- A move keeps a world sound.
 use Rattle.std.proofs.Common.{◌≡◌, ◌+◌, ◌≤◌, ℕ, true, false, ◌&&◌, [], length, None, nat_eq, refl, sym, ◌∙◌, subst, arith}
+use Rattle.std.specs.Prelude.{IfSome}
 use Rattle.std.specs.List.{AllByRecursion}
 use Rattle.page_tree.specs.Tree.{Forest, bare, grown, has_page, node_of, without, kids_of, kid_with_slug, last_step, graft}
 use Rattle.page_tree.specs.Rows.{Row, rows_of}
@@ -17,15 +18,15 @@ use Rattle.tree_model.specs.Places.{is_beside, parent_at, place_at, slug_in, mov
 use Rattle.tree_model.specs.Shape.{AllPages, AreWithin}
 use Rattle.tree_model.proofs.CountLemmas.{count, once, distinct_ids, has_counts, counts_has, node_found, told_apart}
 use Rattle.tree_model.proofs.MoveLemmas.{Lands, IsMoved, lands, grafted, AllPages-moved}
-use Rattle.tree_model.proofs.PageLemmas.{AllPages-weaker, all_weaker}
+use Rattle.tree_model.proofs.PageLemmas.{all_weaker}
 use Rattle.tree_model.proofs.WholeLemmas.{whole-graft, whole-without}
 use Rattle.site_model.specs.World.{TreePart}
 use Rattle.site_model.specs.Rules.{slug_taken, steps_full, too_deep, url_too_long}
 use Rattle.site_model.specs.Moves.{into_itself, effect_refusal, move_rules, with_move}
-use Rattle.site_model.specs.Sound.{IsTree, IsBody, IsGiven}
+use Rattle.site_model.specs.Sound.{IsTree, IsBody, IsRegular, IsGiven}
 use Rattle.site_model.proofs.ClearLemmas.{first_clear, test_clear, then_clear, else_clear, slug_clear, limit_clear, urls_clear}
-use Rattle.site_model.proofs.CreationSound.{no_source}
 use Rattle.site_model.proofs.Groups.{AreGroups}
+use Rattle.site_model.proofs.RegularLemmas.{KeepRegular, sources_stay}
 use Rattle.site_model.proofs.RoomLemmas.{graft_room}
 use Rattle.site_model.proofs.RowLemmas.{rows_within, rows_too_deep}
 
@@ -141,15 +142,31 @@ tree_moved tree next page target position sound found there other below_root non
       siblings = moved.siblings;
     }
 
+-- the regular pages are kept where the same pages stand afterwards
+pub move_keeps_regular : (tree : Forest Body) (next page target : ℕ) (position : Position) →
+    IsTree tree next → has_page page tree ≡ true → has_page target tree ≡ true →
+    (nat_eq target 1 && is_beside position) ≡ false →
+    move_rules tree page target position ≡ None →
+    KeepRegular tree (moved_to tree page target position)
+move_keeps_regular tree next page target position sound found there below_root none one regular =
+    let moved = move_keeps tree next page target position sound found there below_root none in
+    let some = has_counts one tree regular.1 in
+    let same = moved.counts one in (
+      regular.0,
+      counts_has one (moved_to tree page target position) (omega (arith, some, same)),
+      AllPages-moved (λ id slug body. id ≡ one → body.source ≡ None) page
+          (parent_at tree target position) (place_at (without page tree) target position) tree
+          regular.2,
+    )
+
 -- the world after a move that no rule refuses is sound
 pub move_keeps_sound : (part : TreePart) (now page target : ℕ) (position : Position) →
-    AreGroups part → AllPages (λ id slug body. body.source ≡ None) part.tree → IsMoment now →
+    AreGroups part → IsMoment now →
     has_page page part.tree ≡ true → has_page target part.tree ≡ true → (1 ≡ page → ⊥) →
     (nat_eq target 1 && is_beside position) ≡ false →
     move_rules part.tree page target position ≡ None →
     AreGroups (with_move part now page target position)
-move_keeps_sound part now page target position sound regular moment found there other below_root
-    none =
+move_keeps_sound part now page target position sound moment found there other below_root none =
     let tree = part.tree in
     let parent = parent_at tree target position in
     let place = place_at (without page tree) target position in
@@ -182,9 +199,11 @@ move_keeps_sound part now page target position sound regular moment found there 
         bodies = AllPages-moved
             (λ id slug body. IsBody part.revisions part.next_user part.next_workflow
             part.workflows id body) page parent place tree sound.bodies.bodies;
-        sources = AllPages-weaker (λ id slug body. body.source ≡ None) _ after
-            (λ id slug body none. no_source after body.source none)
-            (AllPages-moved (λ id slug body. body.source ≡ None) page parent place tree regular);
+        sources = sources_stay tree after after
+            (move_keeps_regular tree part.next_page page target position sound.pages found there
+            below_root none)
+            (AllPages-moved (λ id slug body. IfSome body.source (IsRegular tree)) page parent place
+            tree sound.bodies.sources);
       };
       people = sound.people;
       tasks = sound.tasks;

@@ -1,4 +1,4 @@
--- To open a desk keeps a world without aliases sound.
+-- To open a desk keeps a world sound.
 use Rattle.std.proofs.Common.{◌≡◌, ◌<◌, ℕ, Bool, true, false, cond, nat_eq, nat_le, List, [], ◌∷◌, length, find, Option, Some, None, refl, arith}
 use Rattle.std.specs.Prelude.{IfSome}
 use Rattle.std.specs.List.{AllByRecursion}
@@ -15,10 +15,11 @@ use Rattle.site_model.specs.Rules.{refused_if}
 use Rattle.site_model.specs.Views.{body_of}
 use Rattle.site_model.specs.Bodies.{revision_with, latest_content}
 use Rattle.site_model.specs.Desks.{desk_user, open_rules, open_desk, desk_opened}
-use Rattle.site_model.specs.Reached.{HasNoAlias}
+use Rattle.site_model.specs.Sound.{IsRegular}
 use Rattle.site_model.proofs.ClearLemmas.{first_clear, test_clear}
 use Rattle.site_model.proofs.Deeds.{MayOpen, KeepsSound}
 use Rattle.site_model.proofs.Groups.{AreGroups}
+use Rattle.site_model.proofs.RegularLemmas.{same_regular}
 
 -- a sound part at a later moment is sound
 pub later_sound : (part : TreePart) (now : ℕ) → AreGroups part → IsMoment now →
@@ -88,16 +89,16 @@ latest_fits part page sound =
 
 -- to open a desk that no rule refuses keeps a world sound
 pub opening_keeps_sound : (part : TreePart) (now caller page : ℕ) → AreGroups part →
-    HasNoAlias part.tree → IsMoment now → caller < part.next_user → (page ≡ 1 → ⊥) →
+    IsRegular part.tree page → IsMoment now → caller < part.next_user →
     open_rules part page ≡ None →
     KeepsSound part caller (Some page) (open_desk part now page)
-opening_keeps_sound part now caller page sound regular moment user below none =
+opening_keeps_sound part now caller page sound regular moment user none =
     let free = first_clear (option_map DeskTaken (desk_user part.desk_pairs page)) _ none in
     let full = first_clear
     (refused_if (nat_le MAX_DESKS (length part.desk_pairs)) ContentFull) [] free.1 in
     record {
       sound = later_sound part now sound moment;
-      regular = regular;
+      regular = same_regular part.tree;
       opened = opened (latest_content part page) (latest_fits part page sound)
           (none_on_page page part.desk_pairs free.0)
           (room_left MAX_DESKS (length part.desk_pairs) (test_clear _ ContentFull full.0));
@@ -111,4 +112,4 @@ opening_keeps_sound part now caller page sound regular moment user below none =
         IfSome (desk_opened caller (Some page) text) (MayOpen part)
     opened None fits free room = tt
     opened (Some text) fits free room =
-        record { user = user; below = below; fits = fits; free = free; room = room }
+        record { user = user; regular = regular; fits = fits; free = free; room = room }

@@ -1,28 +1,26 @@
--- To publish a page's latest revision, now or later, keeps a world without aliases sound.
+-- To publish a page's latest revision, now or later, keeps a world sound.
 use Rattle.std.proofs.Common.{◌≡◌, ◌≤◌, ℕ, Bool, true, false, cond, ◌||◌, ◌&&◌, nat_eq, List, [], ◌∷◌, find, Option, None, Some, refl, sym, ap, subst, ◌∙◌, arith}
 use Rattle.std.specs.Prelude.{IfSome}
 use Rattle.std.specs.List.{list_any}
 use Rattle.std.specs.Option.{option_and_then, option_or}
 use Rattle.std.proofs.lemmas.Bool.Decides.{nat_tests}
-use Rattle.page_tree.specs.Tree.{Forest, bare, grown, has_page, node_of}
+use Rattle.page_tree.specs.Tree.{Forest, has_page}
 use Rattle.site_ids.specs.Moment.{IsMoment}
 use Rattle.site_types.specs.declared.body.Body.{Body}
 use Rattle.site_types.specs.declared.moderation.Moderation.{Moderation}
 use Rattle.site_types.specs.declared.moderation.ModerationStatus.{ModerationStatus}
 use Rattle.site_types.specs.declared.moderation.ModerationStatus.TheVariants.{InProgress, Approved, NeedsChanges, Cancelled}
 use Rattle.site_types.specs.declared.revision.Revision.{Revision}
-use Rattle.tree_model.specs.Shape.{AllPages}
-use Rattle.tree_model.proofs.CountLemmas.{has_counts, node_found, none_counts, node_absent, id_found}
-use Rattle.tree_model.proofs.PageLemmas.{AllPages-node_of}
+use Rattle.tree_model.proofs.CountLemmas.{none_counts, node_absent, id_found}
 use Rattle.site_model.specs.World.{TreePart, time_at}
 use Rattle.site_model.specs.Views.{first_body, body_of}
 use Rattle.site_model.specs.Bodies.{revision_with, latest_of, is_after}
 use Rattle.site_model.specs.Moderations.{WasPublished, moved_on, at_status, after_publishing}
 use Rattle.site_model.specs.Publishing.{published_body, publish}
 use Rattle.site_model.specs.Sound.{IdsRise, HasOwn, FitsModeration, is_own, may_wait}
-use Rattle.site_model.specs.Reached.{HasNoAlias}
 use Rattle.site_model.proofs.BodySound.{IsKept, no_alias, body_keeps_sound}
 use Rattle.site_model.proofs.Groups.{AreGroups}
+use Rattle.site_model.proofs.RegularLemmas.{HasNoSource, found_has}
 
 module _ {X : Type 0} where
   -- what is found passes the test
@@ -140,36 +138,12 @@ kept_is_there tree page body is = choice (has_page page tree) refl
 kept_body : (part : TreePart) (page : ℕ) (body : Body) → AreGroups part →
     body_of part.tree page ≡ Some body → IsKept part page body
 kept_body part page body sound is =
-    let there = has_counts page part.tree (kept_is_there part.tree page body is) in
-    let node = node_found page part.tree there in
-    let all = AllPages-node_of (λ id slug body. IsKept part id body) page part.tree
-    sound.bodies.bodies in
-    let one = (subst (λ f. AllPages (λ id slug body. IsKept part id body) f) node.is all).0 in
-    let same = sym (ap (λ (f : Forest Body). first_body f) node.is) ∙ is in
-    subst (λ (own : Body). IsKept part page own) (same_body node.body body same) one
-  where
-    same_body : (a b : Body) → ◌≡◌ {A = Option Body} (Some a) (Some b) → a ≡ b
-    same_body a b h = cc
-
--- a page has no source where none has
-no_source_kept : (tree : Forest Body) (page : ℕ) (body : Body) → HasNoAlias tree →
-    body_of tree page ≡ Some body → body.source ≡ None
-no_source_kept tree page body regular is =
-    first_regular (node_of page tree)
-    (AllPages-node_of (λ id slug body. body.source ≡ None) page tree regular) is
-  where
-    same_body : (a b : Body) → ◌≡◌ {A = Option Body} (Some a) (Some b) → a ≡ b
-    same_body a b h = cc
-
-    first_regular : (f : Forest Body) → HasNoAlias f → first_body f ≡ Some body →
-        body.source ≡ None
-    first_regular bare all h = absurd (cc)
-    first_regular (grown i step slug own kids rest) all h =
-        subst (λ (one : Body). one.source ≡ None) (same_body own body h) all.0
+    found_has (λ id own. IsKept part id own) page part.tree body sound.bodies.bodies
+    (kept_is_there part.tree page body is) is
 
 -- the latest revision of a page is its own
 latest_is : (part : TreePart) (page : ℕ) (revision : Revision) → AreGroups part →
-    HasNoAlias part.tree → (page ≡ 1 → ⊥) → latest_of part page ≡ Some revision →
+    HasNoSource part.tree page → (page ≡ 1 → ⊥) → latest_of part page ≡ Some revision →
     IsLatestOf part page revision
 latest_is part page revision sound regular below is =
     by_body (body_of part.tree page) refl is
@@ -189,8 +163,7 @@ latest_is part page revision sound regular below is =
     by_body None at h = absurd (cc)
     by_body (Some body) at h =
         by_id body
-        ((kept_body part page body sound at).regular below
-        (no_source_kept part.tree page body regular at)) body.latest refl h
+        ((kept_body part page body sound at).regular below (regular body at)) body.latest refl h
 
 -- a moderation that is given up still names what it named
 cancelled_fits : (part : TreePart) (page : ℕ) (moderation : Option Moderation) →
@@ -304,7 +277,7 @@ same_kind moment revision body = choice (is_after moment revision.go_live)
 
 -- to publish the latest revision of a page, or to schedule it, keeps a world sound
 pub publish_keeps_sound : (part : TreePart) (now page : ℕ) (revision : Revision) →
-    AreGroups part → HasNoAlias part.tree → IsMoment now → (page ≡ 1 → ⊥) →
+    AreGroups part → HasNoSource part.tree page → IsMoment now → (page ≡ 1 → ⊥) →
     latest_of part page ≡ Some revision → AreGroups (publish part now page (Some revision)).part
 publish_keeps_sound part now page revision sound regular moment below is =
     let latest = latest_is part page revision sound regular below is in
@@ -312,7 +285,9 @@ publish_keeps_sound part now page revision sound regular moment below is =
     body_keeps_sound part now page
     (λ body. record (published_body (time_at part now) revision body) {
       moderation = after_publishing body.moderation;
-    }) sound regular moment
-    (λ body none. (same_kind (time_at part now) revision body).0 ∙ none)
-    (λ body kept none. published_fits part page (time_at part now) revision body below at latest
-    kept none)
+    }) sound moment
+    (record {
+      source = λ body. (same_kind (time_at part now) revision body).0;
+      kept = λ body found kept. published_fits part page (time_at part now) revision body below at
+          latest kept (regular body found);
+    })

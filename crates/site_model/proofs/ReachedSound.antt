@@ -1,53 +1,42 @@
 -- A step leads from a world that is reached to one that is reached, whoever calls.
-use Rattle.std.proofs.Common.{◌≡◌, ℕ, true, List, [], Option, Some, None, Result, Ok, Err, refl, sym, subst, ◌∙◌}
-use Rattle.page_tree.specs.Tree.{Forest, End, without}
+use Rattle.std.proofs.Common.{◌≡◌, ℕ, true, List, Option, Some, None, Result, Ok, Err, refl, sym, subst, ◌∙◌}
+use Rattle.page_tree.specs.Tree.{End, without}
 use Rattle.site_ids.specs.Moment.{IsMoment}
 use Rattle.site_types.specs.Content.{ContentValue}
-use Rattle.site_types.specs.declared.body.Body.{Body}
 use Rattle.site_types.specs.declared.command.Command.{Command}
-use Rattle.site_types.specs.declared.command.Command.TheVariants.{Create, Move, Delete, SetSlug, OpenDesk, SaveDesk, ShutDesk, File, Publish, Unpublish, Lock, Unlock, Purge, DefineUser, DefineGroup, Member, Grant}
+use Rattle.site_types.specs.declared.command.Command.TheVariants.{Create, Move, Delete, SetSlug, Alias, Detach, Copy, OpenDesk, SaveDesk, ShutDesk, File, Publish, Unpublish, Unschedule, Lock, Unlock, Purge, DefineUser, DefineGroup, Member, Grant, Tick}
 use Rattle.site_types.specs.declared.entry.Entry.{Entry}
 use Rattle.site_types.specs.declared.refusal.Refusal.{Refusal}
 use Rattle.site_types.specs.declared.reply.Reply.{Reply}
 use Rattle.site_types.specs.declared.revision.Revision.{Revision}
-use Rattle.tree_model.specs.Shape.{AllPages}
 use Rattle.tree_model.specs.Places.{parent_at, place_at}
 use Rattle.tree_model.proofs.MoveLemmas.{AllPages-moved}
 use Rattle.tree_model.proofs.PageLemmas.{AllPages-graft, AllPages-without, AllPages-weaker, AllPages-both}
 use Rattle.tree_model.proofs.RenameLemmas.{AllPages-renamed}
 use Rattle.site_model.specs.World.{Desk, World, TreePart, Effect, time_at}
 use Rattle.site_model.specs.Create.{new_page}
-use Rattle.site_model.specs.Bodies.{rebodied, latest_of}
+use Rattle.site_model.specs.Bodies.{latest_of}
+use Rattle.site_model.specs.Delete.{aliases_left, each_detached}
 use Rattle.site_model.specs.Publishing.{publish}
 use Rattle.site_model.specs.Desks.{desk_page, own_text, file_text, settled, desks_after}
 use Rattle.site_model.specs.Step.{is_built, saving, step_by, step_with, with_desks, step_at, step}
 use Rattle.site_model.specs.Step as steps
 use Rattle.site_model.specs.Sound.{IsSoundPart}
-use Rattle.site_model.specs.Reached.{HasNoAlias, HasNoneYet, IsReachedPart, IsReached}
+use Rattle.site_model.specs.Reached.{HasNoneYet, IsReachedPart, IsReached}
 use Rattle.site_model.specs.Laws.{FitsCommand, FitsDesk}
 use Rattle.site_model.proofs.AcceptLemmas.{accepted, same_ok}
-use Rattle.site_model.proofs.BodyLemmas.{AllPages-rebodied}
+use Rattle.site_model.proofs.AliasSound.{alias_none}
+use Rattle.site_model.proofs.CopyStepSound.{copy_none}
 use Rattle.site_model.proofs.DeskSound.{settled_sound}
+use Rattle.site_model.proofs.DetachSound.{detach_none}
+use Rattle.site_model.proofs.EachDetached.{each_none}
+use Rattle.site_model.proofs.FlowLemmas.{IsFree, HasNoFlow, with_pages, free_rebodied}
 use Rattle.site_model.proofs.Groups.{groups_of}
 use Rattle.site_model.proofs.PartLemmas.{saved_part}
 use Rattle.site_model.proofs.PublishSound.{same_kind}
 use Rattle.site_model.proofs.StepSound.{built_sound}
+use Rattle.site_model.proofs.TickSound.{unschedule_none, tick_none}
 use Rattle.site_model.proofs.WorldSound.{step_keeps_sound}
-
--- A page without a workflow and without a moderation.
-record IsFree (body : Body) : Type 0 where
-  no_workflow : body.workflow ≡ None
-  no_moderation : body.moderation ≡ None
-
--- each page is like that
-abbrev AreFree : Forest Body → Type 0
-AreFree tree = AllPages (λ id slug body. IsFree body) tree
-
--- What no command makes yet is not there, aliases aside.
-record HasNoFlow (part : TreePart) : Type 0 where
-  pages : AreFree part.tree
-  no_task : part.tasks ≡ []
-  no_workflow : part.workflows ≡ []
 
 -- it is not there where nothing is that no command makes yet
 no_flow : (part : TreePart) → HasNoneYet part → HasNoFlow part
@@ -61,10 +50,9 @@ no_flow part none = record {
   no_workflow = none.no_workflow;
 }
 
--- and with aliases aside that is all
-none_yet : (part : TreePart) → HasNoFlow part → HasNoAlias part.tree → HasNoneYet part
-none_yet part none regular = record {
-  no_alias = regular;
+-- and that is all
+none_yet : (part : TreePart) → HasNoFlow part → HasNoneYet part
+none_yet part none = record {
   no_page_workflow = AllPages-weaker (λ id slug body. IsFree body)
       (λ id slug body. body.workflow ≡ None) part.tree (λ id slug body is. is.no_workflow)
       none.pages;
@@ -74,22 +62,6 @@ none_yet part none regular = record {
   no_task = none.no_task;
   no_workflow = none.no_workflow;
 }
-
--- it is not there in another part with pages like that, and with the same tasks and workflows
-with_pages : (part after : TreePart) → HasNoFlow part → AreFree after.tree →
-    part.tasks ≡ after.tasks → part.workflows ≡ after.workflows → HasNoFlow after
-with_pages part after none pages tasks workflows = record {
-  pages = pages;
-  no_task = sym tasks ∙ none.no_task;
-  no_workflow = sym workflows ∙ none.no_workflow;
-}
-
--- another body for a page leaves it without both, where it does so with each body
-free_rebodied : (page : ℕ) (change : Body → Body) (tree : Forest Body) → AreFree tree →
-    ((body : Body) → IsFree body → IsFree (change body)) → AreFree (rebodied page change tree)
-free_rebodied page change tree pages stays =
-    AllPages-rebodied page change (λ id slug body. IsFree body) tree
-    (λ slug body is. stays body is) pages
 
 -- publishing makes neither
 published_none : (part : TreePart) (now page : ℕ) (found : Option Revision) → HasNoFlow part →
@@ -128,8 +100,10 @@ built_none part desk now caller (Move page target position) none built =
     (AllPages-moved (λ id slug body. IsFree body) page (parent_at part.tree target position)
     (place_at (without page part.tree) target position) part.tree none.pages) refl refl
 built_none part desk now caller (Delete page) none built =
-    with_pages part _ none
-    (AllPages-without (λ id slug body. IsFree body) page part.tree none.pages) refl refl
+    let after = each_detached now caller (aliases_left part page) part in
+    let kept = each_none now caller (aliases_left part page) part none in
+    with_pages after _ kept
+    (AllPages-without (λ id slug body. IsFree body) page after.tree kept.pages) refl refl
 built_none part desk now caller (SetSlug page slug) none built =
     with_pages part _ none
     (AllPages-renamed (λ id slug body. IsFree body) page slug part.tree
@@ -171,6 +145,13 @@ built_none part desk now caller (Member user group on) none built =
     with_pages part _ none none.pages refl refl
 built_none part desk now caller (Grant group page permission on) none built =
     with_pages part _ none none.pages refl refl
+built_none part desk now caller (Alias source parent slug) none built =
+    alias_none part now caller source parent slug none
+built_none part desk now caller (Detach page) none built = detach_none part now caller page none
+built_none part desk now caller (Copy page parent slug deep) none built =
+    copy_none part now caller page parent slug deep none
+built_none part desk now caller (Unschedule page) none built = unschedule_none part now page none
+built_none part desk now caller Tick none built = tick_none part now none
 built_none part desk now caller _ none built = absurd (cc)
 
 -- a step of the tree part makes none of it
@@ -194,13 +175,14 @@ step_by_keeps_reached before after told desk now caller command reached moment f
     let one = accepted before after told desk now caller command is in
     let deed = steps.effect before desk now caller command in
     let kept = built_sound before desk now caller command (groups_of before reached.sound)
-    reached.sound.desks reached.none_yet.no_alias moment fits at one.front one.built one.own in
-    let sound = subst (λ (made : TreePart × Effect). IsSoundPart made.0 × HasNoAlias made.0.tree)
-    one.done
-    (settled_sound before caller (desk_page command) deed reached.sound kept, kept.regular) in
+    reached.sound.desks moment fits at one.front one.built one.own in
     let none = step_makes_none before after told desk now caller command
     (no_flow before reached.none_yet) is in
-    record { sound = sound.0; none_yet = none_yet after none sound.1 }
+    record {
+      sound = subst (λ (made : TreePart × Effect). IsSoundPart made.0) one.done
+          (settled_sound before caller (desk_page command) deed reached.sound kept);
+      none_yet = none_yet after none;
+    }
 
 -- what holds of each part that a step may lead to holds of that of the world after it
 part_made : (P : TreePart → Type 0) (desks : List Desk)
@@ -219,11 +201,9 @@ pub step_keeps_reached : (before after : World) (reply : Reply) (entry : Entry) 
     step before entry ≡ Ok (after, reply) → IsReached after
 unfolding step_at
 step_keeps_reached before after reply entry reached moment fits is =
-    let sound = step_keeps_sound before after reply entry reached.sound reached.none_yet.no_alias
-    moment fits is in
     record {
-      sound = sound.0;
-      none_yet = none_yet after.part (choice (saving entry.command) is) sound.1;
+      sound = step_keeps_sound before after reply entry reached.sound moment fits is;
+      none_yet = none_yet after.part (choice (saving entry.command) is);
     }
   where
     none : HasNoFlow before.part

@@ -1,5 +1,6 @@
 -- Another slug keeps a world sound.
 use Rattle.std.proofs.Common.{◌≡◌, ◌≤◌, ℕ, true, List, [], ◌∷◌, length, None, refl, sym, subst, arith}
+use Rattle.std.specs.Prelude.{IfSome}
 use Rattle.std.specs.List.{AllByRecursion}
 use Rattle.std.specs.Str.{bytes_eq}
 use Rattle.page_tree.specs.Tree.{Forest, bare, grown, has_page, kids_of, kid_with_slug, without}
@@ -14,9 +15,9 @@ use Rattle.site_types.specs.declared.world_rows.Grant.{Grant}
 use Rattle.tree_model.specs.Limits.{MAX_URL}
 use Rattle.tree_model.specs.Places.{parent_in, slug_in}
 use Rattle.tree_model.specs.Renames.{renamed}
-use Rattle.tree_model.specs.Shape.{IsWhole, AllPages}
+use Rattle.tree_model.specs.Shape.{IsWhole}
 use Rattle.tree_model.proofs.CountLemmas.{count, once, distinct_ids, has_counts, counts_has, cut_counts}
-use Rattle.tree_model.proofs.PageLemmas.{AllPages-weaker, all_weaker}
+use Rattle.tree_model.proofs.PageLemmas.{all_weaker}
 use Rattle.tree_model.proofs.ParentLemmas.{parent_found}
 use Rattle.tree_model.proofs.PlaceLemmas.{AtParent-kids}
 use Rattle.tree_model.proofs.RenameLemmas.{AllPages-renamed, count-renamed, AreRising-renamed, AreWithin-renamed, height-renamed, SlugsDiffer-renamed}
@@ -25,10 +26,10 @@ use Rattle.tree_model.proofs.WholeLemmas.{whole-renamed}
 use Rattle.site_model.specs.World.{TreePart}
 use Rattle.site_model.specs.Rules.{slug_taken, url_too_long}
 use Rattle.site_model.specs.Slugs.{effect_refusal, slug_rules, with_slug}
-use Rattle.site_model.specs.Sound.{IsTree, IsBody, IsGiven}
+use Rattle.site_model.specs.Sound.{IsTree, IsBody, IsRegular, IsGiven}
 use Rattle.site_model.proofs.ClearLemmas.{first_clear, else_clear, test_clear, slug_clear, urls_clear}
-use Rattle.site_model.proofs.CreationSound.{no_source}
 use Rattle.site_model.proofs.Groups.{AreGroups}
+use Rattle.site_model.proofs.RegularLemmas.{KeepRegular, sources_stay}
 
 -- no slug is empty, as the root's is
 root_free : (new : List ℕ) (f : Forest Body) → IsSlug new → IsWhole f → kid_with_slug new f ≡ None
@@ -94,12 +95,24 @@ tree_renamed tree next page new sound fits other none =
           sound.siblings;
     }
 
+-- the regular pages are kept by another slug for one
+pub slug_keeps_regular : (tree : Forest Body) (page : ℕ) (new : List ℕ) →
+    KeepRegular tree (renamed page new tree)
+slug_keeps_regular tree page new one regular =
+    let some = has_counts one tree regular.1 in
+    let same = count-renamed one page new tree in (
+      regular.0,
+      counts_has one (renamed page new tree) (omega (arith, some, same)),
+      AllPages-renamed (λ id slug body. id ≡ one → body.source ≡ None) page new tree
+          (λ id slug body is. is) regular.2,
+    )
+
 -- the world with a new slug that no rule refuses is sound
 pub slug_keeps_sound : (part : TreePart) (now page : ℕ) (new : List ℕ) → AreGroups part →
-    AllPages (λ id slug body. body.source ≡ None) part.tree → IsMoment now → IsSlug new →
+    IsMoment now → IsSlug new →
     (1 ≡ page → ⊥) → slug_rules part.tree page new ≡ None →
     AreGroups (with_slug part now page new)
-slug_keeps_sound part now page new sound regular moment fits other none =
+slug_keeps_sound part now page new sound moment fits other none =
     let tree = part.tree in
     let after = renamed page new tree in
     let stays = λ (id : ℕ) (old : has_page id tree ≡ true).
@@ -127,10 +140,9 @@ slug_keeps_sound part now page new sound regular moment fits other none =
         bodies = AllPages-renamed
             (λ id slug body. IsBody part.revisions part.next_user part.next_workflow
             part.workflows id body) page new tree (λ id slug body is. is) sound.bodies.bodies;
-        sources = AllPages-weaker (λ id slug body. body.source ≡ None) _ after
-            (λ id slug body none. no_source after body.source none)
-            (AllPages-renamed (λ id slug body. body.source ≡ None) page new tree
-            (λ id slug body is. is) regular);
+        sources = sources_stay tree after after (slug_keeps_regular tree page new)
+            (AllPages-renamed (λ id slug body. IfSome body.source (IsRegular tree)) page new tree
+            (λ id slug body is. is) sound.bodies.sources);
       };
       people = sound.people;
       tasks = sound.tasks;

@@ -94,7 +94,6 @@ new_part_is_sound digest fits = record {
 -- nothing is there that no command makes yet
 pub new_part_has_none : (digest : List ℕ) → HasNoneYet (new_part digest)
 new_part_has_none digest = record {
-  no_alias = (refl, tt, tt);
   no_page_workflow = (refl, tt, tt);
   no_moderation = (refl, tt, tt);
   no_task = refl;

@@ -1,43 +1,42 @@
--- Each command that is built keeps a world without aliases sound, before its desks are looked at.
+-- Each command that is built keeps a world sound, before its desks are looked at.
 use Rattle.std.proofs.Common.{◌≡◌, ℕ, Bool, true, false, cond, ◌||◌, ◌&&◌, nat_eq, List, [], ◌∷◌, Option, Some, None, refl, sym, arith}
-use Rattle.page_tree.specs.Tree.{End, without}
 use Rattle.site_ids.specs.Moment.{IsMoment}
 use Rattle.site_types.specs.Content.{ContentValue}
 use Rattle.site_types.specs.declared.command.Command.{Command}
-use Rattle.site_types.specs.declared.command.Command.TheVariants.{Create, Move, Delete, SetSlug, OpenDesk, SaveDesk, ShutDesk, File, Publish, Unpublish, Lock, Unlock, Purge, DefineUser, DefineGroup, Member, Grant}
+use Rattle.site_types.specs.declared.command.Command.TheVariants.{Create, Move, Delete, SetSlug, Alias, Detach, Copy, OpenDesk, SaveDesk, ShutDesk, File, Publish, Unpublish, Unschedule, Lock, Unlock, Purge, DefineUser, DefineGroup, Member, Grant, Tick}
 use Rattle.site_types.specs.declared.permission.Permission.{Permission}
 use Rattle.site_types.specs.declared.permission.Permission.TheVariants.{Add}
 use Rattle.site_types.specs.declared.position.Position.{Position}
 use Rattle.site_types.specs.declared.refusal.Refusal.TheVariants.{IsRoot}
 use Rattle.site_types.specs.declared.reply.Reply.TheVariants.{Done}
-use Rattle.tree_model.specs.Places.{is_beside, parent_at, place_at}
+use Rattle.tree_model.specs.Places.{is_beside}
 use Rattle.tree_model.proofs.CountLemmas.{apart_by_test}
-use Rattle.tree_model.proofs.MoveLemmas.{AllPages-moved}
-use Rattle.tree_model.proofs.PageLemmas.{AllPages-graft, AllPages-without}
-use Rattle.tree_model.proofs.RenameLemmas.{AllPages-renamed}
 use Rattle.site_model.specs.World.{TreePart}
 use Rattle.site_model.specs.Rules.{are_root}
-use Rattle.site_model.specs.Needs.{needs_of, create_needs, move_needs, delete_needs, slug_needs, superuser_needs}
-use Rattle.site_model.specs.Front.{StopsNobody, StopsOthers, row_of, naming, on_page, on_move, front_rules}
-use Rattle.site_model.specs.Create.{new_page}
+use Rattle.site_model.specs.Needs.{needs_of, create_needs, move_needs, slug_needs, superuser_needs}
+use Rattle.site_model.specs.Front.{StopsOthers, row_of, naming, on_page, on_move, front_rules}
 use Rattle.site_model.specs.Desks.{desk_page}
 use Rattle.site_model.specs.Step.{is_built, rules}
 use Rattle.site_model.specs.Step as steps
 use Rattle.site_model.specs.Sound.{AreDesks}
-use Rattle.site_model.specs.Reached.{HasNoAlias}
 use Rattle.site_model.specs.Laws.{FitsCommand, FitsDesk}
 use Rattle.site_model.proofs.AcceptLemmas.{front_parts, page_found}
+use Rattle.site_model.proofs.AliasSound.{alias_sound}
 use Rattle.site_model.proofs.ClearLemmas.{test_clear, neither}
-use Rattle.site_model.proofs.CreationSound.{creation_keeps_sound}
+use Rattle.site_model.proofs.CopyStepSound.{copy_sound}
+use Rattle.site_model.proofs.CreationSound.{creation_keeps_sound, creation_keeps_regular}
 use Rattle.site_model.proofs.Deeds.{KeepsSound, below_root, plain_keeps}
-use Rattle.site_model.proofs.DeletionSound.{deletion_keeps_sound}
+use Rattle.site_model.proofs.DeletingSound.{delete_sound}
+use Rattle.site_model.proofs.DetachSound.{detach_sound}
 use Rattle.site_model.proofs.DraftSound.{open_sound, shut_sound, file_sound, publish_sound, unpublish_sound, lock_sound, unlock_sound}
 use Rattle.site_model.proofs.GrantSound.{grant_keeps_sound}
 use Rattle.site_model.proofs.Groups.{AreGroups}
-use Rattle.site_model.proofs.MoveSound.{move_keeps_sound}
+use Rattle.site_model.proofs.MoveSound.{move_keeps_sound, move_keeps_regular}
 use Rattle.site_model.proofs.PeopleSound.{user_keeps_sound, group_keeps_sound, member_keeps_sound}
 use Rattle.site_model.proofs.PurgeSound.{purge_keeps_sound}
-use Rattle.site_model.proofs.SlugSound.{slug_keeps_sound}
+use Rattle.site_model.proofs.RegularLemmas.{same_regular, kept_stay}
+use Rattle.site_model.proofs.SlugSound.{slug_keeps_sound, slug_keeps_regular}
+use Rattle.site_model.proofs.TickSound.{unschedule_sound, tick_sound}
 use Rattle.site_model.proofs.StrangerLemmas.{maker_is_user}
 
 -- of a move neither the page is, nor a target that would be its sibling
@@ -57,23 +56,23 @@ move_below_root page target false none =
 
 -- a creation
 create_sound : (part : TreePart) (desk : Option ContentValue) (now caller parent : ℕ)
-    (slug : List ℕ) (content : ContentValue) → AreGroups part → HasNoAlias part.tree →
-    IsMoment now → FitsCommand (Create parent slug content) →
+    (slug : List ℕ) (content : ContentValue) → AreGroups part → IsMoment now →
+    FitsCommand (Create parent slug content) →
     front_rules part caller (Create parent slug content) ≡ None →
     rules part desk now caller (Create parent slug content) ≡ None →
     KeepsSound part caller (desk_page (Create parent slug content))
     (steps.effect part desk now caller (Create parent slug content))
 unfolding front_rules row_of needs_of rules steps.effect desk_page
-create_sound part desk now caller parent slug content sound regular moment fits front own =
+create_sound part desk now caller parent slug content sound moment fits front own =
     let parts = front_parts part caller (naming (parent ∷ []) []) (create_needs part caller parent)
     front in
     let found = page_found part.tree parent [] parts.pages in
     let user = maker_is_user part caller parent Add sound.people parts.may in
     record {
-      sound = creation_keeps_sound part now caller parent slug content sound regular found.0 fits.0
-          fits.1 moment user own;
-      regular = AllPages-graft (λ id slug body. body.source ≡ None) parent End
-          (new_page part caller slug) part.tree (refl, tt, tt) regular;
+      sound = creation_keeps_sound part now caller parent slug content sound found.0 fits.0 fits.1
+          moment user own;
+      regular = kept_stay part.tree _
+          (creation_keeps_regular part caller parent slug sound.pages found.0);
       opened = tt;
       pairs = refl;
       users = omega arith;
@@ -81,42 +80,24 @@ create_sound part desk now caller parent slug content sound regular moment fits 
 
 -- a move
 move_sound : (part : TreePart) (desk : Option ContentValue) (now caller page target : ℕ)
-    (position : Position) → AreGroups part → HasNoAlias part.tree → IsMoment now →
+    (position : Position) → AreGroups part → IsMoment now →
     front_rules part caller (Move page target position) ≡ None →
     rules part desk now caller (Move page target position) ≡ None →
     KeepsSound part caller (desk_page (Move page target position))
     (steps.effect part desk now caller (Move page target position))
 unfolding front_rules row_of needs_of rules steps.effect desk_page
-move_sound part desk now caller page target position sound regular moment front own =
+move_sound part desk now caller page target position sound moment front own =
     let parts = front_parts part caller (on_move page target position)
     (move_needs part caller page target position) front in
     let found = page_found part.tree page (target ∷ []) parts.pages in
     let there = page_found part.tree target [] found.1 in
     let below = move_below_root page target (is_beside position) parts.below in
     record {
-      sound = move_keeps_sound part now page target position sound regular moment found.0 there.0
-          below.0 below.1 own;
-      regular = AllPages-moved (λ id slug body. body.source ≡ None) page
-          (parent_at part.tree target position)
-          (place_at (without page part.tree) target position) part.tree regular;
-      opened = tt;
-      pairs = refl;
-      users = omega arith;
-    }
-
--- a deletion
-delete_sound : (part : TreePart) (desk : Option ContentValue) (now caller page : ℕ) →
-    AreGroups part → HasNoAlias part.tree → IsMoment now →
-    front_rules part caller (Delete page) ≡ None →
-    KeepsSound part caller (desk_page (Delete page))
-    (steps.effect part desk now caller (Delete page))
-unfolding front_rules row_of needs_of steps.effect desk_page
-delete_sound part desk now caller page sound regular moment front =
-    let parts = front_parts part caller (on_page page StopsOthers false StopsNobody)
-    (delete_needs part caller page) front in
-    record {
-      sound = deletion_keeps_sound part now page sound regular moment (below_root page parts.below);
-      regular = AllPages-without (λ id slug body. body.source ≡ None) page part.tree regular;
+      sound = move_keeps_sound part now page target position sound moment found.0 there.0 below.0
+          below.1 own;
+      regular = kept_stay part.tree _
+          (move_keeps_regular part.tree part.next_page page target position sound.pages found.0
+          there.0 below.1 own);
       opened = tt;
       pairs = refl;
       users = omega arith;
@@ -124,20 +105,19 @@ delete_sound part desk now caller page sound regular moment front =
 
 -- another slug
 slug_sound : (part : TreePart) (desk : Option ContentValue) (now caller page : ℕ)
-    (slug : List ℕ) → AreGroups part → HasNoAlias part.tree → IsMoment now →
-    FitsCommand (SetSlug page slug) → front_rules part caller (SetSlug page slug) ≡ None →
+    (slug : List ℕ) → AreGroups part → IsMoment now → FitsCommand (SetSlug page slug) →
+    front_rules part caller (SetSlug page slug) ≡ None →
     rules part desk now caller (SetSlug page slug) ≡ None →
     KeepsSound part caller (desk_page (SetSlug page slug))
     (steps.effect part desk now caller (SetSlug page slug))
 unfolding front_rules row_of needs_of rules steps.effect desk_page
-slug_sound part desk now caller page slug sound regular moment fits front own =
+slug_sound part desk now caller page slug sound moment fits front own =
     let parts = front_parts part caller (on_page page StopsOthers false StopsOthers)
     (slug_needs part caller page) front in
     record {
-      sound = slug_keeps_sound part now page slug sound regular moment fits
-          (below_root page parts.below) own;
-      regular = AllPages-renamed (λ id slug body. body.source ≡ None) page slug part.tree
-          (λ id slug body is. is) regular;
+      sound = slug_keeps_sound part now page slug sound moment fits (below_root page parts.below)
+          own;
+      regular = kept_stay part.tree _ (slug_keeps_regular part.tree page slug);
       opened = tt;
       pairs = refl;
       users = omega arith;
@@ -145,19 +125,19 @@ slug_sound part desk now caller page slug sound regular moment fits front own =
 
 -- a grant
 grant_sound : (part : TreePart) (desk : Option ContentValue) (now caller group page : ℕ)
-    (permission : Permission) (on : Bool) → AreGroups part → HasNoAlias part.tree → IsMoment now →
+    (permission : Permission) (on : Bool) → AreGroups part → IsMoment now →
     front_rules part caller (Grant group page permission on) ≡ None →
     rules part desk now caller (Grant group page permission on) ≡ None →
     KeepsSound part caller (desk_page (Grant group page permission on))
     (steps.effect part desk now caller (Grant group page permission on))
 unfolding front_rules row_of needs_of rules steps.effect desk_page
-grant_sound part desk now caller group page permission on sound regular moment front own =
+grant_sound part desk now caller group page permission on sound moment front own =
     let parts = front_parts part caller (naming (page ∷ []) []) (superuser_needs part caller) front
     in
     let found = page_found part.tree page [] parts.pages in
     record {
       sound = grant_keeps_sound part now group page permission on sound moment found.0 own;
-      regular = regular;
+      regular = same_regular part.tree;
       opened = tt;
       pairs = refl;
       users = omega arith;
@@ -165,59 +145,72 @@ grant_sound part desk now caller group page permission on sound regular moment f
 
 -- each command that is built, and no other is accepted
 pub built_sound : (part : TreePart) (desk : Option ContentValue) (now caller : ℕ)
-    (command : Command) → AreGroups part → AreDesks part → HasNoAlias part.tree → IsMoment now →
+    (command : Command) → AreGroups part → AreDesks part → IsMoment now →
     FitsCommand command → FitsDesk part caller (desk_page command) desk →
     front_rules part caller command ≡ None → is_built command ≡ true →
     rules part desk now caller command ≡ None →
     KeepsSound part caller (desk_page command) (steps.effect part desk now caller command)
 unfolding rules steps.effect desk_page
-built_sound part desk now caller (Create parent slug content) sound desks regular moment fits at
+built_sound part desk now caller (Create parent slug content) sound desks moment fits at
     front built own =
-    create_sound part desk now caller parent slug content sound regular moment fits front own
-built_sound part desk now caller (Move page target position) sound desks regular moment fits at
+    create_sound part desk now caller parent slug content sound moment fits front own
+built_sound part desk now caller (Move page target position) sound desks moment fits at
     front built own =
-    move_sound part desk now caller page target position sound regular moment front own
-built_sound part desk now caller (Delete page) sound desks regular moment fits at front built own =
-    delete_sound part desk now caller page sound regular moment front
-built_sound part desk now caller (SetSlug page slug) sound desks regular moment fits at front
+    move_sound part desk now caller page target position sound moment front own
+built_sound part desk now caller (Delete page) sound desks moment fits at front built own =
+    delete_sound part desk now caller page sound moment front own
+built_sound part desk now caller (SetSlug page slug) sound desks moment fits at front
     built own =
-    slug_sound part desk now caller page slug sound regular moment fits front own
-built_sound part desk now caller (DefineUser superuser digest) sound desks regular moment fits at
+    slug_sound part desk now caller page slug sound moment fits front own
+built_sound part desk now caller (DefineUser superuser digest) sound desks moment fits at
     front built own =
     plain_keeps part _ caller None _
-    (user_keeps_sound part now superuser digest sound moment fits own) regular refl (omega arith)
-built_sound part desk now caller DefineGroup sound desks regular moment fits at front built own =
-    plain_keeps part _ caller None _ (group_keeps_sound part now sound moment own) regular
+    (user_keeps_sound part now superuser digest sound moment fits own) (same_regular part.tree)
     refl (omega arith)
-built_sound part desk now caller (Member user group on) sound desks regular moment fits at front
+built_sound part desk now caller DefineGroup sound desks moment fits at front built own =
+    plain_keeps part _ caller None _ (group_keeps_sound part now sound moment own)
+    (same_regular part.tree) refl (omega arith)
+built_sound part desk now caller (Member user group on) sound desks moment fits at front
     built own =
     plain_keeps part _ caller None _ (member_keeps_sound part now user group on sound moment own)
-    regular refl (omega arith)
-built_sound part desk now caller (Grant group page permission on) sound desks regular moment fits at
+    (same_regular part.tree) refl (omega arith)
+built_sound part desk now caller (Grant group page permission on) sound desks moment fits at
     front built own =
-    grant_sound part desk now caller group page permission on sound regular moment front own
-built_sound part desk now caller (OpenDesk page) sound desks regular moment fits at front
+    grant_sound part desk now caller group page permission on sound moment front own
+built_sound part desk now caller (OpenDesk page) sound desks moment fits at front
     built own =
-    open_sound part desk now caller page sound regular moment front own
-built_sound part desk now caller (SaveDesk page content) sound desks regular moment fits at front
+    open_sound part desk now caller page sound moment front own
+built_sound part desk now caller (SaveDesk page content) sound desks moment fits at front
     built own =
-    plain_keeps part part caller (Some page) Done sound regular refl (omega arith)
-built_sound part desk now caller (ShutDesk page) sound desks regular moment fits at front
+    plain_keeps part part caller (Some page) Done sound (same_regular part.tree) refl (omega arith)
+built_sound part desk now caller (ShutDesk page) sound desks moment fits at front
     built own =
-    shut_sound part now caller page sound regular moment
-built_sound part desk now caller (File page go_live expire) sound desks regular moment fits at front
+    shut_sound part now caller page sound moment
+built_sound part desk now caller (File page go_live expire) sound desks moment fits at front
     built own =
-    file_sound part desk now caller page go_live expire sound desks regular moment fits at own
-built_sound part desk now caller (Publish page) sound desks regular moment fits at front built own =
-    publish_sound part desk now caller page sound regular moment front
-built_sound part desk now caller (Unpublish page) sound desks regular moment fits at front
+    file_sound part desk now caller page go_live expire sound desks moment fits at own
+built_sound part desk now caller (Publish page) sound desks moment fits at front built own =
+    publish_sound part desk now caller page sound moment front
+built_sound part desk now caller (Unpublish page) sound desks moment fits at front
     built own =
-    unpublish_sound part desk now caller page sound regular moment front
-built_sound part desk now caller (Lock page) sound desks regular moment fits at front built own =
-    lock_sound part desk now caller page sound regular moment front own
-built_sound part desk now caller (Unlock page) sound desks regular moment fits at front built own =
-    unlock_sound part desk now caller page sound regular moment front
-built_sound part desk now caller (Purge page) sound desks regular moment fits at front built own =
-    plain_keeps part _ caller None _ (purge_keeps_sound part now page sound moment) regular refl
-    (omega arith)
-built_sound part desk now caller _ sound desks regular moment fits at front built own = absurd (cc)
+    unpublish_sound part desk now caller page sound moment front
+built_sound part desk now caller (Lock page) sound desks moment fits at front built own =
+    lock_sound part desk now caller page sound moment front own
+built_sound part desk now caller (Unlock page) sound desks moment fits at front built own =
+    unlock_sound part desk now caller page sound moment front
+built_sound part desk now caller (Purge page) sound desks moment fits at front built own =
+    plain_keeps part _ caller None _ (purge_keeps_sound part now page sound moment)
+    (same_regular part.tree) refl (omega arith)
+built_sound part desk now caller (Alias source parent slug) sound desks moment fits at front
+    built own =
+    alias_sound part desk now caller source parent slug sound moment fits front own
+built_sound part desk now caller (Detach page) sound desks moment fits at front built own =
+    detach_sound part desk now caller page sound moment front own
+built_sound part desk now caller (Copy page parent slug deep) sound desks moment fits at front
+    built own =
+    copy_sound part desk now caller page parent slug deep sound moment fits front own
+built_sound part desk now caller (Unschedule page) sound desks moment fits at front built own =
+    unschedule_sound part desk now caller page sound moment front
+built_sound part desk now caller Tick sound desks moment fits at front built own =
+    tick_sound part desk now caller sound moment
+built_sound part desk now caller _ sound desks moment fits at front built own = absurd (cc)

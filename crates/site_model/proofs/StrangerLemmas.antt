@@ -1,9 +1,9 @@
 -- Who is no user holds nothing, so that whoever may do something is one.
-use Rattle.std.proofs.Common.{◌≡◌, ◌<◌, ◌≤◌, ℕ, zero, suc, Bool, true, false, cond, nat_eq, nat_lt, ◌⊎◌, List, [], ◌∷◌, length, filter, Option, Some, None, inl, inr, refl, arith}
+use Rattle.std.proofs.Common.{◌≡◌, ◌<◌, ◌≤◌, ℕ, zero, suc, Bool, true, false, cond, ◌||◌, ◌&&◌, nat_eq, nat_lt, ◌⊎◌, List, [], ◌∷◌, length, filter, Option, Some, None, inl, inr, refl, arith}
 use Rattle.std.specs.List.{AllByRecursion, list_any}
 use Rattle.std.proofs.lemmas.Bool.Decides.{nat_tests}
 use Rattle.site_types.specs.declared.permission.Permission.{Permission}
-use Rattle.site_types.specs.declared.permission.Permission.TheVariants.{Change}
+use Rattle.site_types.specs.declared.permission.Permission.TheVariants.{Add, Change}
 use Rattle.site_types.specs.declared.world_rows.UserRow.{UserRow}
 use Rattle.site_types.specs.declared.world_rows.Member.{Member}
 use Rattle.site_types.specs.declared.world_rows.Grant.{Grant}
@@ -11,8 +11,8 @@ use Rattle.site_model.specs.World.{TreePart}
 use Rattle.std.specs.Option.{option_map}
 use Rattle.site_types.specs.declared.refusal.Refusal.TheVariants.{Denied}
 use Rattle.site_model.specs.Rights.{permission_number, user_at, is_superuser, groups_of, has_group, rights_of, permits, above_of, has}
-use Rattle.site_model.specs.Views.{View, Stage, view_of, meets, moderates, may_edit}
-use Rattle.site_model.specs.Needs.{unless_met, first_unmet, need_at, edit_needs, denied}
+use Rattle.site_model.specs.Views.{View, Stage, owns_all, view_of, meets, moderates, may_edit}
+use Rattle.site_model.specs.Needs.{unless_met, first_unmet, need_at, take_need, edit_needs, denied}
 use Rattle.site_model.specs.Sound.{NamesBoth, ArePeople}
 
 -- past the last user there is none
@@ -114,6 +114,31 @@ maker_is_user part user page permission people may =
     refused true held a b is = absurd (cc)
     refused false true a b is = absurd (cc)
     refused false false a b is = absurd (cc)
+
+-- whoever is not denied to take a page away is a user
+pub remover_is_user : (part : TreePart) (user page : ℕ) →
+    ArePeople part.users part.members part.next_user part.next_group →
+    denied part user (take_need part user page ∷ []) ≡ None → user < part.next_user
+remover_is_user part user page people may =
+    elim (below_or_not user part.next_user) [
+      | inl below ↦ below
+      | inr past ↦
+          refused (is_superuser part.users user) (has part user Change page)
+          (has part user Add page) (owns_all part.tree user page)
+          (stranger_is_not_super part user people past)
+          (stranger_holds_nothing part user page Change people past)
+          (stranger_holds_nothing part user page Add people past) may
+    ]
+  where
+    refused : (super change add owned : Bool) → super ≡ false → change ≡ false →
+        add ≡ false →
+        option_map Denied (cond super None (first_unmet
+        (unless_met (change || (add && owned)) (permission_number Change) ∷ []))) ≡ None →
+        user < part.next_user
+    refused true change add owned a b c is = absurd (cc)
+    refused false true add owned a b c is = absurd (cc)
+    refused false false true owned a b c is = absurd (cc)
+    refused false false false owned a b c is = absurd (cc)
 
 -- whoever is not denied to edit a page is a user
 pub editor_is_user : (part : TreePart) (user page : ℕ) →

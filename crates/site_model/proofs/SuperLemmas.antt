@@ -1,49 +1,39 @@
 -- A superuser meets every need, and no rule but that of needs says that one is not met.
-use Rattle.std.proofs.Common.{◌≡◌, ℕ, Bool, true, false, cond, not, ◌||◌, bytes_eq, List, [], ◌∷◌, length, Option, Some, None, Result, Err, nat_eq, nat_lt, refl, sym, ap, ◌∙◌}
+use Rattle.std.proofs.Common.{◌≡◌, ℕ, Bool, true, false, not, ◌||◌, List, [], ◌∷◌, length, Option, Some, None, Result, Err, nat_eq, nat_lt, refl, sym, ap, ◌∙◌}
 use Rattle.std.specs.List.{list_any}
-use Rattle.std.specs.Option.{option_map, option_and_then, is_some}
-use Rattle.page_tree.specs.Tree.{Forest, has_page, kids_of, kid_with_slug, without}
-use Rattle.page_tree.specs.Rows.{Row, rows_of}
-use Rattle.step_path.specs.declared.step.TheConstants.{LAST_STEP}
-use Rattle.step_path.specs.declared.path.TheConstants.{MAX_DEPTH}
-use Rattle.site_ids.specs.declared.ids.TheConstants.{LAST_PAGE_ID, LAST_REVISION_ID, LAST_USER_ID, LAST_GROUP_ID}
+use Rattle.std.specs.Option.{option_and_then, is_some}
+use Rattle.page_tree.specs.Tree.{Forest, has_page}
+use Rattle.site_ids.specs.declared.ids.TheConstants.{LAST_USER_ID, LAST_GROUP_ID}
 use Rattle.site_types.specs.Content.{ContentValue}
 use Rattle.site_types.specs.declared.body.Body.{Body}
 use Rattle.site_types.specs.declared.command.Command.{Command}
-use Rattle.site_types.specs.declared.command.Command.TheVariants.{Create, Move, Delete, SetSlug, OpenDesk, SaveDesk, ShutDesk, File, Publish, Unpublish, Lock, Unlock, Purge, DefineUser, DefineGroup, Member, Grant}
+use Rattle.site_types.specs.declared.command.Command.TheVariants.{Create, Move, Delete, SetSlug, Alias, Detach, OpenDesk, SaveDesk, ShutDesk, File, Publish, Unpublish, Unschedule, Lock, Unlock, Purge, DefineUser, DefineGroup, Member, Grant, Tick}
 use Rattle.site_types.specs.declared.permission.Permission.{Permission}
-use Rattle.site_types.specs.declared.position.Position.{Position}
 use Rattle.site_types.specs.declared.refusal.NameKind.TheVariants as kinds
 use Rattle.site_types.specs.declared.refusal.Refusal.{Refusal}
 use Rattle.site_types.specs.declared.refusal.Refusal.TheVariants.{Denied, NothingNew, NoPage, IsRoot, SlugTaken, IsAlias, IntoItself, StepsFull, TooDeep, UrlTooLong, IdsFull, NoName}
 use Rattle.site_types.specs.declared.refusal.Refusal.TheVariants as refusals
-use Rattle.tree_model.specs.Limits.{MAX_URL}
-use Rattle.tree_model.specs.Places.{parent_in, parent_at, slug_in, stays_put, moved_to, leads_into_itself}
-use Rattle.tree_model.specs.Renames.{renamed}
-use Rattle.site_model.specs.World.{TreePart}
+use Rattle.site_model.specs.World.{TreePart, time_at}
 use Rattle.site_model.specs.Limits.{MAX_GRANTS}
 use Rattle.site_model.specs.Rights.{Rights, is_superuser, rights_of, user_of}
-use Rattle.site_model.specs.Rules.{refused_if, first_of, no_page, no_pages, are_root, slug_taken, steps_full, too_deep, url_too_long, ids_full, content_full, is_given, no_user, no_group}
+use Rattle.site_model.specs.Rules.{refused_if, first_of, no_page, no_pages, are_root, ids_full, is_given, no_user, no_group}
 use Rattle.site_model.specs.Views.{Stage, body_of, view_of, is_asked}
 use Rattle.site_model.specs.Needs.{may, needs_of, denied}
 use Rattle.site_model.specs.Front.{Stops, StopsNobody, StopsOthers, StopsEveryone, CommandRow, row_of, locked, is_alias, aliased, in_moderation, locked_by, stage_in, front_by, front_rules}
 use Rattle.site_model.specs.Create.{created, creation_rules}
-use Rattle.site_model.specs.Moves.{into_itself, move_rules}
-use Rattle.site_model.specs.Moves as moves
+use Rattle.site_model.specs.Moves.{move_rules}
 use Rattle.site_model.specs.Slugs.{slug_rules}
-use Rattle.site_model.specs.Slugs as slugs
 use Rattle.site_model.specs.Users.{is_membership, is_grant, agree, grants_after, user_rules, group_rules, member_rules, grant_rules}
 use Rattle.site_model.specs.Bodies.{latest_of}
-use Rattle.site_model.specs.Publishing.{publish_rules, unpublish_rules, lock_rules, unlock_rules, purge_rules}
+use Rattle.site_model.specs.Aliases.{alias_rules, detach_rules}
+use Rattle.site_model.specs.Delete.{delete_rules}
+use Rattle.site_model.specs.Ticks.{due_at, is_idle, tick_rules}
+use Rattle.site_model.specs.Publishing.{publish_rules, unpublish_rules, unschedule_rules, lock_rules, unlock_rules, purge_rules}
 use Rattle.site_model.specs.Desks.{desk_page, no_desk, open_rules, file_rules, settled}
 use Rattle.site_model.specs.Step.{is_built, rules, refusal_of, unless_refused, step_by}
 use Rattle.site_model.specs.Step as steps
-use Rattle.site_model.proofs.DenialLemmas.{is_denied, first_says, test_says, either_says, all_say, ids_say, contents_say, new_says, desk_says, open_says, file_says, publish_says, unpublish_says, locking_says, unlocking_says, purge_says}
-
--- nor a slug that is taken
-taken_says : (found : Option ℕ) → is_denied (option_map SlugTaken found) ≡ false
-taken_says None = refl
-taken_says (Some id) = refl
+use Rattle.site_model.proofs.DenialLemmas.{is_denied, first_says, test_says, all_say, ids_say, new_says, desk_says, open_says, file_says, publish_says, unpublish_says, unscheduling_says, locking_says, unlocking_says, purge_says}
+use Rattle.site_model.proofs.PageDenials.{create_says, move_says, slug_says, delete_says, aliasing_says, detach_says}
 
 -- nor pages that are named
 pages_say : (tree : Forest Body) (ids : List ℕ) → is_denied (no_pages tree ids) ≡ false
@@ -100,103 +90,10 @@ front_says part caller row needs is =
     (first_says (in_moderation row.moderation (rights_of part caller) (stage_in view)) []
     (stage_says row.moderation (rights_of part caller) (stage_in view)) refl)))))
 
--- nor a URL that is too long
-url_says : (rows : List (Row Body)) → is_denied (url_too_long rows) ≡ false
-url_says rows =
-    test_says (list_any (λ (row : Row Body). nat_lt MAX_URL (length row.url)) rows) UrlTooLong refl
-
--- nor a path that is too long
-depth_says : (rows : List (Row Body)) → is_denied (too_deep rows) ≡ false
-depth_says rows =
-    test_says (list_any (λ (row : Row Body). nat_lt MAX_DEPTH (length row.path)) rows) TooDeep refl
-
--- nor a step past the last
-steps_say : (rows : List (Row Body)) → is_denied (steps_full rows) ≡ false
-steps_say rows =
-    test_says
-    (list_any (λ (row : Row Body). list_any (λ step. nat_lt LAST_STEP step) row.path) rows)
-    StepsFull refl
-
 -- nor a group that is not there
 group_says : (part : TreePart) (group : ℕ) → is_denied (no_group part group) ≡ false
 group_says part group =
     test_says (not (is_given part.next_group group)) (NoName kinds.Group) refl
-
--- nor do the rules of a creation
-create_says : (part after : TreePart) (parent : ℕ) (slug : List ℕ) →
-    is_denied (creation_rules part after parent slug) ≡ false
-create_says part after parent slug =
-    let rows = rows_of after.tree in
-    all_say
-    (slug_taken part.tree parent slug
-    ∷ steps_full rows
-    ∷ too_deep rows
-    ∷ url_too_long rows
-    ∷ ids_full LAST_PAGE_ID part.next_page
-    ∷ ids_full LAST_REVISION_ID part.next_revision
-    ∷ content_full after.revisions
-    ∷ []) (
-      taken_says (kid_with_slug slug (kids_of parent part.tree)),
-      (
-        steps_say rows,
-        (
-          depth_says rows,
-          (
-            url_says rows,
-            (
-              ids_say LAST_PAGE_ID part.next_page,
-              (
-                ids_say LAST_REVISION_ID part.next_revision,
-                (
-                  contents_say after.revisions,
-                  tt,
-                ),
-              ),
-            ),
-          ),
-        ),
-      ),
-    )
-
--- nor those of a move
-move_says : (tree : Forest Body) (page target : ℕ) (position : Position) →
-    is_denied (move_rules tree page target position) ≡ false
-move_says tree page target position =
-    let rows = rows_of (moved_to tree page target position) in
-    let left = without page tree in
-    let effect = all_say
-    (slug_taken left (parent_at tree target position) (slug_in tree page)
-    ∷ steps_full rows
-    ∷ too_deep rows
-    ∷ url_too_long rows
-    ∷ []) (
-      taken_says
-          (kid_with_slug (slug_in tree page) (kids_of (parent_at tree target position) left)),
-      (steps_say rows, (depth_says rows, (url_says rows, tt))),
-    ) in
-    all_say
-    (into_itself tree page target position
-    ∷ cond (stays_put page target position) (Some NothingNew)
-    (moves.effect_refusal tree page target position)
-    ∷ []) (
-      test_says (leads_into_itself tree page target position) IntoItself refl,
-      (
-        either_says (stays_put page target position) (Some NothingNew)
-            (moves.effect_refusal tree page target position) refl effect,
-        tt,
-      ),
-    )
-
--- nor those of another slug
-slug_says : (tree : Forest Body) (page : ℕ) (slug : List ℕ) →
-    is_denied (slug_rules tree page slug) ≡ false
-slug_says tree page slug =
-    let left = without page tree in
-    let rows = rows_of (renamed page slug tree) in
-    either_says (bytes_eq (slug_in tree page) slug) (Some NothingNew)
-    (slugs.effect_refusal tree page slug) refl
-    (all_say (slug_taken left (parent_in tree page) slug ∷ url_too_long rows ∷ [])
-    (taken_says (kid_with_slug slug (kids_of (parent_in tree page) left)), (url_says rows, tt)))
 
 -- nor those of users, memberships and grants
 member_says : (part : TreePart) (user group : ℕ) (on : Bool) →
@@ -240,7 +137,8 @@ own_says part desk now caller (Create parent slug content) =
 own_says part desk now caller (Move page target position) =
     first_says (move_rules part.tree page target position) []
     (move_says part.tree page target position) refl
-own_says part desk now caller (Delete page) = refl
+own_says part desk now caller (Delete page) =
+    first_says (delete_rules part now caller page) [] (delete_says part now caller page) refl
 own_says part desk now caller (SetSlug page slug) =
     first_says (slug_rules part.tree page slug) [] (slug_says part.tree page slug) refl
 own_says part desk now caller (OpenDesk page) =
@@ -272,6 +170,16 @@ own_says part desk now caller (Member user group on) =
 own_says part desk now caller (Grant group page permission on) =
     first_says (grant_rules part group page permission on) []
     (grant_says part group page permission on) refl
+own_says part desk now caller (Alias source parent slug) =
+    first_says (alias_rules part now caller source parent slug) []
+    (aliasing_says part now caller source parent slug) refl
+own_says part desk now caller (Detach page) =
+    first_says (detach_rules part now caller page) [] (detach_says part now caller page) refl
+own_says part desk now caller (Unschedule page) =
+    first_says (unschedule_rules part page) [] (unscheduling_says part page) refl
+own_says part desk now caller Tick =
+    first_says (tick_rules part now) []
+    (new_says (is_idle (due_at part (time_at part now)))) refl
 own_says part desk now caller _ = refl
 
 -- what is in two refused results that are the same

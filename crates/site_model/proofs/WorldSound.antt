@@ -1,8 +1,7 @@
--- A step that is accepted keeps a world without aliases sound, whatever desks are open.
-use Rattle.std.proofs.Common.{◌≡◌, ℕ, Bool, true, false, cond, not, ◌||◌, ◌&&◌, nat_eq, List, [], ◌∷◌, map, filter, find, Option, Some, None, Result, Ok, Err, refl, sym, ap, subst, ◌∙◌}
+-- A step that is accepted keeps a world sound, whatever desks are open.
+use Rattle.std.proofs.Common.{◌≡◌, ℕ, Bool, true, false, cond, not, ◌&&◌, nat_eq, List, [], ◌∷◌, map, filter, Option, Some, None, Result, Ok, Err, refl, sym, ap, subst, ◌∙◌}
 use Rattle.std.specs.Prelude.{IfSome}
-use Rattle.std.specs.List.{AllByRecursion, list_any}
-use Rattle.std.specs.Option.{option_map}
+use Rattle.std.specs.List.{AllByRecursion}
 use Rattle.site_ids.specs.Moment.{IsMoment}
 use Rattle.site_types.specs.Content.{ContentValue, FitsLimits}
 use Rattle.site_types.specs.declared.command.Command.{Command}
@@ -12,23 +11,22 @@ use Rattle.site_types.specs.declared.refusal.Refusal.{Refusal}
 use Rattle.site_types.specs.declared.reply.Reply.{Reply}
 use Rattle.site_types.specs.declared.reply.Reply.TheVariants.{Done}
 use Rattle.site_model.specs.World.{DeskPair, Desk, World, TreePart, Deed, Effect, pair_of}
-use Rattle.site_model.specs.Desks.{desk_page, text_at, own_text, no_desk, desk_opened, with_pair, with_desk, is_ended, settled, desks_after}
+use Rattle.site_model.specs.Desks.{desk_page, own_text, no_desk, desk_opened, with_pair, with_desk, is_ended, settled, desks_after}
 use Rattle.site_model.specs.Step.{saving, with_text, saved, save, step_by, with_desks, step_with, step_at, step}
 use Rattle.site_model.specs.Step as steps
 use Rattle.site_model.specs.Sound.{IsSoundPart, IsSound}
-use Rattle.site_model.specs.Reached.{HasNoAlias}
-use Rattle.site_model.specs.Laws.{IsAtDesk, FitsCommand, FitsDesk}
+use Rattle.site_model.specs.Laws.{FitsCommand, FitsDesk}
 use Rattle.site_model.proofs.AcceptLemmas.{accepted, not_refused, same_ok}
 use Rattle.site_model.proofs.Deeds.{KeepsSound}
 use Rattle.site_model.proofs.DeskSound.{map_filter, ended_pairs, settled_sound, pairs_opened, texts_opened}
 use Rattle.site_model.proofs.Groups.{groups_of}
 use Rattle.site_model.proofs.OrderLemmas.{all_filter}
+use Rattle.site_model.proofs.OwnText.{own_text_fits}
 use Rattle.site_model.proofs.StepSound.{built_sound}
 
 -- What an accepted step of the tree part leaves, beside these desks of the part before it.
 record LeavesSound (after : TreePart) (told : Effect) (desks : List Desk) : Type 0 where
   sound : IsSoundPart after
-  regular : HasNoAlias after.tree
   desks_match : map pair_of (desks_after told desks) ≡ after.desk_pairs
   texts : AllByRecursion (λ (desk : Desk). FitsLimits desk.text) (desks_after told desks)
 
@@ -43,7 +41,6 @@ settled_leaves part caller page deed desks sound kept match texts =
     let keep = λ (pair : DeskPair). not (is_ended (ended_pairs caller page deed) pair) in
     record {
       sound = settled_sound part caller page deed sound kept;
-      regular = kept.regular;
       desks_match = map_filter keep (with_desk opened desks)
           ∙ ap (λ (list : List DeskPair). filter keep list)
           (pairs_opened opened desks
@@ -56,17 +53,17 @@ settled_leaves part caller page deed desks sound kept match texts =
 -- an accepted step of the tree part leaves a sound one
 step_by_leaves : (before after : TreePart) (told : Effect) (desk : Option ContentValue)
     (now caller : ℕ) (command : Command) (desks : List Desk) → IsSoundPart before →
-    HasNoAlias before.tree → IsMoment now → FitsCommand command →
+    IsMoment now → FitsCommand command →
     FitsDesk before caller (desk_page command) desk →
     map pair_of desks ≡ before.desk_pairs →
     AllByRecursion (λ (one : Desk). FitsLimits one.text) desks →
     step_by before desk now caller command ≡ Ok (after, told) → LeavesSound after told desks
-step_by_leaves before after told desk now caller command desks sound regular moment fits at match
-    texts is =
+step_by_leaves before after told desk now caller command desks sound moment fits at match texts
+    is =
     let one = accepted before after told desk now caller command is in
     let deed = steps.effect before desk now caller command in
     let kept = built_sound before desk now caller command (groups_of before sound) sound.desks
-    regular moment fits at one.front one.built one.own in
+    moment fits at one.front one.built one.own in
     subst (λ (made : TreePart × Effect). LeavesSound made.0 made.1 desks) one.done
     (settled_leaves before caller (desk_page command) deed desks sound kept match texts)
 
@@ -106,89 +103,47 @@ saved_fits _ fits = tt
 
 -- saving a desk keeps a world sound
 save_keeps_sound : (before after : World) (reply : Reply) (caller page : ℕ)
-    (text : ContentValue) → IsSound before → HasNoAlias before.part.tree → FitsLimits text →
-    save before caller page text ≡ Ok (after, reply) →
-    IsSound after × HasNoAlias after.part.tree
-save_keeps_sound before after reply caller page text sound regular fits is =
+    (text : ContentValue) → IsSound before → FitsLimits text →
+    save before caller page text ≡ Ok (after, reply) → IsSound after
+save_keeps_sound before after reply caller page text sound fits is =
     let both = not_refused (no_desk (own_text before.desks caller (Some page)))
     (record before { desks = saved page caller text before.desks }, Done) (after, reply) is in
-    subst (λ (made : World × Reply). IsSound made.0 × HasNoAlias made.0.part.tree) both.1 (
-      record {
-        part = sound.part;
-        desks_match = same_pairs page caller text before.desks ∙ sound.desks_match;
-        texts = texts_saved page caller text before.desks fits sound.texts;
-      },
-      regular,
-    )
+    subst (λ (made : World × Reply). IsSound made.0) both.1 (record {
+      part = sound.part;
+      desks_match = same_pairs page caller text before.desks ∙ sound.desks_match;
+      texts = texts_saved page caller text before.desks fits sound.texts;
+    })
 
 -- a step of the tree part, with its desks
 part_keeps_sound : (desks : List Desk) (result : Result (TreePart × Effect) Refusal)
     (after : World) (reply : Reply) →
     ((part : TreePart) (told : Effect) → result ≡ Ok (part, told) → LeavesSound part told desks) →
-    with_desks desks result ≡ Ok (after, reply) → IsSound after × HasNoAlias after.part.tree
+    with_desks desks result ≡ Ok (after, reply) → IsSound after
 part_keeps_sound desks (Err refusal) after reply follows is = absurd (cc)
 part_keeps_sound desks (Ok done) after reply follows is =
     let left = follows done.0 done.1 refl in
     let made : World = record { part = done.0; desks = desks_after done.1 desks } in
     let pair = same_ok {E = Refusal} (made, done.1.reply) (after, reply) is in
-    subst (λ (one : World × Reply). IsSound one.0 × HasNoAlias one.0.part.tree) pair (
-      record { part = left.sound; desks_match = left.desks_match; texts = left.texts },
-      left.regular,
-    )
-
--- a text that is found at a desk is within its limits, and the desk is open
-text_found : (page user : ℕ) (desks : List Desk) →
-    AllByRecursion (λ (desk : Desk). FitsLimits desk.text) desks →
-    IfSome (text_at desks page user) (λ text. FitsLimits text
-    × (list_any (λ (pair : DeskPair). nat_eq pair.page page && nat_eq pair.user user)
-    (map pair_of desks) ≡ true))
-text_found page user [] texts = tt
-text_found page user (desk ∷ desks) texts =
-    choice (nat_eq desk.page page && nat_eq desk.user user) (text_found page user desks texts.1)
-  where
-    Open : Bool → ContentValue → Type 0
-    Open t text = FitsLimits text
-        × ((t || list_any (λ (pair : DeskPair). nat_eq pair.page page && nat_eq pair.user user)
-        (map pair_of desks)) ≡ true)
-
-    choice : (t : Bool) → IfSome (text_at desks page user) (Open false) →
-        IfSome (option_map (λ (one : Desk). one.text) (cond t (Some desk)
-        (find (λ (one : Desk). nat_eq one.page page && nat_eq one.user user) desks))) (Open t)
-    choice true more = (texts.0, refl)
-    choice false more = more
-
--- In a sound world the text of the caller's own desk is as a step asks for it.
-pub own_text_fits : (world : World) (caller : ℕ) (page : Option ℕ) → IsSound world →
-    FitsDesk world.part caller page (own_text world.desks caller page)
-own_text_fits world caller None sound = tt
-own_text_fits world caller (Some page) sound =
-    choice (text_at world.desks page caller) (text_found page caller world.desks sound.texts)
-  where
-    choice : (found : Option ContentValue) →
-        IfSome found (λ text. FitsLimits text
-        × (list_any (λ (pair : DeskPair). nat_eq pair.page page && nat_eq pair.user caller)
-        (map pair_of world.desks) ≡ true)) →
-        IfSome found (λ text. IsAtDesk world.part caller page text)
-    choice None is = tt
-    choice (Some text) is = record { fits = is.0; opened = rw sound.desks_match at is.1 }
+    subst (λ (one : World × Reply). IsSound one.0) pair
+    (record { part = left.sound; desks_match = left.desks_match; texts = left.texts })
 
 -- A step that is accepted keeps a world sound, whoever calls and whatever desks are open.
 pub step_keeps_sound : (before after : World) (reply : Reply) (entry : Entry) → IsSound before →
-    HasNoAlias before.part.tree → IsMoment entry.moment → FitsCommand entry.command →
-    step before entry ≡ Ok (after, reply) → IsSound after × HasNoAlias after.part.tree
+    IsMoment entry.moment → FitsCommand entry.command →
+    step before entry ≡ Ok (after, reply) → IsSound after
 unfolding step_at
-step_keeps_sound before after reply entry sound regular moment fits is =
+step_keeps_sound before after reply entry sound moment fits is =
     choice (saving entry.command) (saved_fits entry.command fits) is
   where
     choice : (found : Option (ℕ × ContentValue)) → IfSome found (λ pair. FitsLimits pair.1) →
         step_with before entry.moment entry.caller entry.command found ≡ Ok (after, reply) →
-        IsSound after × HasNoAlias after.part.tree
+        IsSound after
     choice None within h =
         part_keeps_sound before.desks _ after reply
         (λ made told one. step_by_leaves before.part made told
         (own_text before.desks entry.caller (desk_page entry.command)) entry.moment entry.caller
-        entry.command before.desks sound.part regular moment fits
+        entry.command before.desks sound.part moment fits
         (own_text_fits before entry.caller (desk_page entry.command) sound) sound.desks_match
         sound.texts one) h
     choice (Some pair) within h =
-        save_keeps_sound before after reply entry.caller pair.0 pair.1 sound regular within h
+        save_keeps_sound before after reply entry.caller pair.0 pair.1 sound within h

@@ -20,12 +20,13 @@ use Rattle.site_model.specs.Rules.{first_of}
 use Rattle.site_model.specs.Front.{front_rules}
 use Rattle.site_model.specs.Needs.{may, edit_need}
 use Rattle.site_model.specs.Create.{plain_revision}
+use Rattle.site_model.specs.Delete.{with_deleted, deleted_at_once}
 use Rattle.site_model.specs.Desks.{desk_page, own_text, settled, stays}
 use Rattle.site_model.specs.Step.{is_built, rules, effect, unless_refused, step_by, step}
 use Rattle.site_model.specs.Parts.{part_of, touches}
 use Rattle.site_model.specs.Start.{new_world}
-use Rattle.site_model.specs.Sound.{IsSound, NumbersRise}
-use Rattle.site_model.specs.Reached.{HasNoAlias, HasNoModeration, IsReachedPart, IsReached, draft_need}
+use Rattle.site_model.specs.Sound.{IsSoundPart, IsSound, NumbersRise}
+use Rattle.site_model.specs.Reached.{HasNoModeration, IsReachedPart, IsReached, draft_need}
 
 -- A list of ids in a command: 1 to 16 of them.
 pub record FitsList (ids : List ℕ) : Type 0 where
@@ -99,14 +100,12 @@ OwnTextFits =
     (world : World) (caller : ℕ) (page : Option ℕ) →
     IsSound world → FitsDesk world.part caller page (own_text world.desks caller page)
 
--- A step that is accepted keeps a world sound, whoever calls and whatever desks are open, where no
--- page is an alias; and then none is.
+-- A step that is accepted keeps a world sound, whoever calls and whatever desks are open.
 abbrev pub StepKeepsSound : Type 0
 StepKeepsSound =
     (before after : World) (reply : Reply) (entry : Entry) →
-    IsSound before → HasNoAlias before.part.tree → IsMoment entry.moment →
-    FitsCommand entry.command → step before entry ≡ Ok (after, reply) →
-    IsSound after × HasNoAlias after.part.tree
+    IsSound before → IsMoment entry.moment → FitsCommand entry.command →
+    step before entry ≡ Ok (after, reply) → IsSound after
 
 -- A step that is accepted leads from a world that is reached to one that is reached, whoever calls.
 abbrev pub StepKeepsReached : Type 0
@@ -177,6 +176,13 @@ EditNeedUnmoderated =
     (part : TreePart) (user page : ℕ) →
     HasNoModeration part.tree → has_page page part.tree ≡ true →
     edit_need part user page ≡ draft_need part user page
+
+-- What a deletion makes of a sound world is told at once by the world before: each alias that is
+-- left becomes what it would by itself.
+abbrev pub DeletionAtOnce : Type 0
+DeletionAtOnce =
+    (part : TreePart) (now caller page : ℕ) → IsSoundPart part →
+    with_deleted part now caller page ≡ deleted_at_once part now caller page
 
 -- the lists beside the tree, but for the revisions, and the numbers that no creation gives out
 pub record KeepsLists (before after : TreePart) : Type 0 where

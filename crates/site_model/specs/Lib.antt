@@ -7,7 +7,6 @@ pub mod Needs
 pub mod Front
 pub mod Create
 pub mod Moves
-pub mod Delete
 pub mod Slugs
 pub mod Users
 pub mod Bodies
@@ -18,7 +17,9 @@ pub mod Tasks
 pub mod Moderating
 pub mod Ticks
 pub mod Aliases
+pub mod Delete
 pub mod Copies
+pub mod Links
 pub mod Step
 pub mod Start
 pub mod Sound

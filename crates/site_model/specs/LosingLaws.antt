@@ -1,5 +1,5 @@
 -- The laws of the open desks that commands end, each proved in src/laws.rt.
-use Rattle.std.specs.Prelude.{◌≡◌, ℕ, Bool, true, false, ◌==◌, ◌&&◌, ◌||◌, not, filter, List, [], ◌∷◌, ◌++◌, Option, None, Ok, if◌then◌else◌}
+use Rattle.std.specs.Prelude.{◌≡◌, ℕ, Bool, true, false, ◌==◌, ◌&&◌, ◌||◌, not, filter, List, [], ◌∷◌, ◌++◌, Option, Ok, if◌then◌else◌}
 use Rattle.std.specs.List.{AllByRecursion, list_any}
 use Rattle.page_tree.specs.Tree.{Forest}
 use Rattle.site_types.specs.Content.{ContentValue}

@@ -11,10 +11,6 @@ use Rattle.site_model.specs.Views.{body_of}
 use Rattle.site_model.specs.Needs.{unless_met}
 use Rattle.site_model.specs.Sound.{IsSoundPart, IsSound}
 
--- no page is an alias
-abbrev pub HasNoAlias : Forest Body → Type 0
-HasNoAlias tree = AllPages (λ id slug body. body.source ≡ None) tree
-
 -- no page has a workflow of its own
 abbrev pub HasNoWorkflow : Forest Body → Type 0
 HasNoWorkflow tree = AllPages (λ id slug body. body.workflow ≡ None) tree
@@ -23,10 +19,8 @@ HasNoWorkflow tree = AllPages (λ id slug body. body.workflow ≡ None) tree
 abbrev pub HasNoModeration : Forest Body → Type 0
 HasNoModeration tree = AllPages (λ id slug body. body.moderation ≡ None) tree
 
--- What no command makes yet is not there: an alias, a page's workflow or its moderation, a task, a
--- workflow.
+-- What no command makes yet is not there: a page's workflow or its moderation, a task, a workflow.
 pub record HasNoneYet (part : TreePart) : Type 0 where
-  pub no_alias : HasNoAlias part.tree
   pub no_page_workflow : HasNoWorkflow part.tree
   pub no_moderation : HasNoModeration part.tree
   pub no_task : part.tasks ≡ []

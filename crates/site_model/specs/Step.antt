@@ -14,7 +14,7 @@ use Rattle.site_model.specs.Rules.{refused_if, first_of}
 use Rattle.site_model.specs.Front.{front_rules}
 use Rattle.site_model.specs.Create.{create_rules, create, plain_deed}
 use Rattle.site_model.specs.Moves.{move_rules, move}
-use Rattle.site_model.specs.Delete.{delete}
+use Rattle.site_model.specs.Delete.{delete_rules, delete}
 use Rattle.site_model.specs.Slugs.{slug_rules, set_slug}
 use Rattle.site_model.specs.Users.{user_rules, define_user, group_rules, define_group, member_rules, set_member, grant_rules, set_grant}
 use Rattle.site_model.specs.Bodies.{latest_of}
@@ -35,8 +35,8 @@ is_built (commands.Create parent slug content) = true
 is_built (commands.Move page target position) = true
 is_built (commands.Delete page) = true
 is_built (commands.SetSlug page slug) = true
-is_built (commands.Alias source parent slug) = false
-is_built (commands.Detach page) = false
+is_built (commands.Alias source parent slug) = true
+is_built (commands.Detach page) = true
 is_built (commands.Copy page parent slug deep) = false
 is_built (commands.OpenDesk page) = true
 is_built (commands.SaveDesk page content) = true
@@ -44,7 +44,7 @@ is_built (commands.ShutDesk page) = true
 is_built (commands.File page go_live expire) = true
 is_built (commands.Publish page) = true
 is_built (commands.Unpublish page) = true
-is_built (commands.Unschedule page) = false
+is_built (commands.Unschedule page) = true
 is_built (commands.Lock page) = true
 is_built (commands.Unlock page) = true
 is_built (commands.Purge page) = true
@@ -59,7 +59,7 @@ is_built (commands.DefineUser superuser digest) = true
 is_built commands.DefineGroup = true
 is_built (commands.Member user group on) = true
 is_built (commands.Grant group page permission on) = true
-is_built commands.Tick = false
+is_built commands.Tick = true
 
 -- The command's own rules, from the seventh on, in the world before it; `desk` is the caller's own
 -- text of the page, where the caller has a desk there.
@@ -68,7 +68,7 @@ rules part desk now caller (commands.Create parent slug content) =
     create_rules part now caller parent slug content
 rules part desk now caller (commands.Move page target position) =
     move_rules part.tree page target position
-rules part desk now caller (commands.Delete page) = None
+rules part desk now caller (commands.Delete page) = delete_rules part now caller page
 rules part desk now caller (commands.SetSlug page slug) = slug_rules part.tree page slug
 rules part desk now caller (commands.Alias source parent slug) =
     alias_rules part now caller source parent slug
@@ -107,7 +107,7 @@ effect part desk now caller (commands.Create parent slug content) =
     create part now caller parent slug content
 effect part desk now caller (commands.Move page target position) =
     move part now page target position
-effect part desk now caller (commands.Delete page) = delete part now page
+effect part desk now caller (commands.Delete page) = delete part now caller page
 effect part desk now caller (commands.SetSlug page slug) = set_slug part now page slug
 effect part desk now caller (commands.Alias source parent slug) =
     make_alias part now caller source parent slug

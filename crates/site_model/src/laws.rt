@@ -1,5 +1,5 @@
 //! Laws of the world. Each is a function that does nothing: its contract is the law.
-ghost use Rattle.site_model.specs.Laws.{NewWorldIsReached, StepByKeepsReached, OwnTextFits, StepKeepsReached, StepKeepsSound, StepIsSettled, DesksStay, UntouchedStays, TouchedAlone, SuperusersMayAll, HeldByWalks, EditNeedUnmoderated, CreationKeepsTheRest};
+ghost use Rattle.site_model.specs.Laws.{NewWorldIsReached, StepByKeepsReached, OwnTextFits, StepKeepsReached, StepKeepsSound, StepIsSettled, DesksStay, UntouchedStays, TouchedAlone, SuperusersMayAll, HeldByWalks, EditNeedUnmoderated, DeletionAtOnce, CreationKeepsTheRest};
 ghost use Rattle.site_model.specs.LosingLaws.{EndedAre, EndsOwn, EndsNone, DeletionEndsAll, LockEndsOthers, PublishEndsNone, StaysByMembers, MemberEnds, StaysByGrants, GrantEnds, MovedAbove, MovedStay, MoveEnds};
 
 /// The world of a new site is one that is reached.
@@ -130,4 +130,9 @@ pub fn moved_stay()
 /// A move ends those desks on moved pages whose users may not edit there below the new parent.
 pub fn move_ends()
     ensures { MoveEnds }
+{}
+
+/// What a deletion makes of a sound world is told at once by the world before.
+pub fn deletion_at_once()
+    ensures { DeletionAtOnce }
 {}

@@ -7,3 +7,4 @@ pub mod Content
 pub mod RootBody
 pub mod Equal
 pub mod Refusal
+pub mod Links

@@ -11,7 +11,7 @@ use site_types::{PageId, Slug};
 
 /// The page with this URL, or `None` exactly where there is none.
 ///
-/// It goes down from the root, with one look-up for each slug of the URL, and searches nothing.
+/// It goes down from the root, with one `Rows::by_slug` for each slug of the URL, and searches nothing.
 pub fn walk(rows: &Rows, url: &[u8]) -> Option<PageId>
     ensures { (tree : Forest PageBody) → rows.now.pages ≡ rows_of tree → HaveSlugs rows.now.pages →
         result ≡ page_at url.now rows.now.pages }

@@ -4,14 +4,15 @@ use Rattle.std.proofs.Common.{◌≡◌, ℕ, Bool, true, false, cond, List, [],
 use Rattle.std.specs.List.{list_any}
 use Rattle.page_tree.specs.Tree.{has_page}
 use Rattle.site_types.specs.Content.{ContentValue}
-use Rattle.site_types.specs.declared.command.Command.TheVariants.{Create, Move, Delete, SetSlug}
+use Rattle.site_types.specs.declared.command.Command.TheVariants.{Create, Move, Delete, SetSlug, Alias, Detach}
 use Rattle.site_types.specs.declared.position.Position.{Position}
 use Rattle.site_types.specs.declared.refusal.Refusal.TheVariants.{IsRoot}
 use Rattle.tree_model.specs.Places.{is_beside}
 use Rattle.tree_model.proofs.CountLemmas.{apart_by_test}
 use Rattle.site_model.specs.World.{TreePart}
+use Rattle.site_model.specs.Aliases.{alias_rules, make_alias, detach_rules, detach}
 use Rattle.site_model.specs.Create.{create_rules, create}
-use Rattle.site_model.specs.Delete.{delete}
+use Rattle.site_model.specs.Delete.{delete_rules, delete}
 use Rattle.site_model.specs.Desks.{desk_page}
 use Rattle.site_model.specs.Front.{StopsOthers, StopsNobody, naming, on_page, on_move, row_of, front_rules}
 use Rattle.site_model.specs.Losing.{NoDesk, suspects_of, shuts}
@@ -66,6 +67,28 @@ module _ (part : TreePart) (caller : ℕ) where
       by false e is =
           (apart_by_test page 1 (first_below page [] is).0, λ f. absurd (cc))
 
+  -- the pages of an alias are there
+  pub alias_names : (source parent : ℕ) (slug : List ℕ) →
+      front_rules part caller (Alias source parent slug) ≡ None →
+      (has_page source part.tree ≡ true) × (has_page parent part.tree ≡ true)
+  unfolding front_rules row_of
+  alias_names source parent slug none =
+      let parts = front_parts part caller (naming (source ∷ parent ∷ []) (source ∷ []))
+      (needs_of part caller (Alias source parent slug)) none in
+      let first = page_found part.tree source (parent ∷ []) parts.pages in
+      (first.0, (page_found part.tree parent [] first.1).0)
+
+  -- the page that becomes a regular one is there, and is not the root
+  pub detach_names : (page : ℕ) → front_rules part caller (Detach page) ≡ None →
+      IsBelowRoot part.tree page
+  unfolding front_rules row_of
+  detach_names page none =
+      let parts = front_parts part caller (naming (page ∷ []) (page ∷ []))
+      (needs_of part caller (Detach page)) none in (
+        (page_found part.tree page [] parts.pages).0,
+        apart_by_test page 1 (first_below page [] parts.below).0,
+      )
+
   -- the page of a deletion is there, and is not the root
   pub delete_names : (page : ℕ) → front_rules part caller (Delete page) ≡ None →
       IsBelowRoot part.tree page
@@ -115,12 +138,13 @@ module _ (part : TreePart) (desk : Option ContentValue) (now caller : ℕ) where
   move_done page target position = refl
 
   -- a deletion
-  pub delete_own : (page : ℕ) → rules part desk now caller (Delete page) ≡ None
+  pub delete_own : (page : ℕ) →
+      rules part desk now caller (Delete page) ≡ delete_rules part now caller page
   unfolding rules
   delete_own page = refl
 
   pub delete_done : (page : ℕ) →
-      effect part desk now caller (Delete page) ≡ delete part now page
+      effect part desk now caller (Delete page) ≡ delete part now caller page
   unfolding effect
   delete_done page = refl
 
@@ -134,6 +158,30 @@ module _ (part : TreePart) (desk : Option ContentValue) (now caller : ℕ) where
       effect part desk now caller (SetSlug page slug) ≡ set_slug part now page slug
   unfolding effect
   slug_done page slug = refl
+
+  -- an alias
+  pub alias_own : (source parent : ℕ) (slug : List ℕ) →
+      rules part desk now caller (Alias source parent slug)
+      ≡ alias_rules part now caller source parent slug
+  unfolding rules
+  alias_own source parent slug = refl
+
+  pub alias_done : (source parent : ℕ) (slug : List ℕ) →
+      effect part desk now caller (Alias source parent slug)
+      ≡ make_alias part now caller source parent slug
+  unfolding effect
+  alias_done source parent slug = refl
+
+  -- an alias that becomes a regular page
+  pub detach_own : (page : ℕ) →
+      rules part desk now caller (Detach page) ≡ detach_rules part now caller page
+  unfolding rules
+  detach_own page = refl
+
+  pub detach_done : (page : ℕ) →
+      effect part desk now caller (Detach page) ≡ detach part now caller page
+  unfolding effect
+  detach_done page = refl
 
 -- no command on the tree looks at the caller's desk
 pub create_desk : (parent : ℕ) (slug : List ℕ) (content : ContentValue) →
@@ -157,12 +205,35 @@ pub slug_desk : (page : ℕ) (slug : List ℕ) → desk_page (SetSlug page slug)
 unfolding desk_page
 slug_desk page slug = refl
 
+-- an alias looks at no desk
+pub alias_desk : (source parent : ℕ) (slug : List ℕ) →
+    desk_page (Alias source parent slug) ≡ None
+unfolding desk_page
+alias_desk source parent slug = refl
+
+-- what makes an alias regular looks at no desk
+pub detach_desk : (page : ℕ) → desk_page (Detach page) ≡ None
+unfolding desk_page
+detach_desk page = refl
+
 -- a creation can end no desk
 pub create_quiet : (parent : ℕ) (slug : List ℕ) (content : ContentValue) →
     (suspects_of (Create parent slug content) ≡ NoDesk)
     × (shuts (Create parent slug content) ≡ false)
 unfolding suspects_of shuts
 create_quiet parent slug content = (refl, refl)
+
+-- nor can an alias that is made
+pub alias_quiet : (source parent : ℕ) (slug : List ℕ) →
+    (suspects_of (Alias source parent slug) ≡ NoDesk)
+    × (shuts (Alias source parent slug) ≡ false)
+unfolding suspects_of shuts
+alias_quiet source parent slug = (refl, refl)
+
+-- nor one that becomes a regular page
+pub detach_quiet : (page : ℕ) → (suspects_of (Detach page) ≡ NoDesk) × (shuts (Detach page) ≡ false)
+unfolding suspects_of shuts
+detach_quiet page = (refl, refl)
 
 -- nor can another slug
 pub slug_quiet : (page : ℕ) (slug : List ℕ) →

@@ -25,7 +25,7 @@ weights_are (revision ∷ revisions) =
     ap (λ n. length (content_form revision.content) + n) (weights_are revisions)
 
 -- with one more revision contents take what its content takes more
-one_longer : (revisions : List Revision) (revision : Revision) →
+pub one_longer : (revisions : List Revision) (revision : Revision) →
     contents_length (revisions ++ revision ∷ [])
     ≡ contents_length revisions + length (content_form revision.content)
 one_longer revisions revision =

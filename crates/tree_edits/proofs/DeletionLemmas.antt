@@ -1,5 +1,5 @@
 -- The plan of a deletion that no rule refuses.
-use Rattle.std.proofs.Common.{◌≡◌, ◌<◌, ◌≤◌, ◌+◌, ℕ, Bool, true, false, ◌||◌, List, [], ◌∷◌, length, filter, max, Option, nat_eq, refl, ap, ◌∙◌, arith}
+use Rattle.std.proofs.Common.{◌≡◌, ◌<◌, ◌≤◌, ◌+◌, ℕ, Bool, true, false, ◌||◌, List, [], ◌∷◌, length, filter, max, Option, None, nat_eq, refl, ap, ◌∙◌, arith}
 use Rattle.std.specs.List.{AllByRecursion, list_any}
 use Rattle.std.proofs.lemmas.Bool.Decides.{nat_tests}
 use Rattle.std.proofs.lemmas.Map.Steps.{length-le_from_distinct_below}
@@ -13,14 +13,20 @@ use Rattle.tree_model.specs.Shape.{AllPages}
 use Rattle.tree_model.proofs.CountLemmas.{once, distinct_ids, cut_counts}
 use Rattle.tree_model.proofs.PageLemmas.{AllPages-node_of}
 use Rattle.tree_model.proofs.SiblingLemmas.{all_append}
-use Rattle.site_model.specs.World.{TreePart}
-use Rattle.site_model.specs.Delete.{without_page, count_gone}
+use Rattle.site_model.specs.World.{TreePart, time_at}
+use Rattle.site_model.specs.Create.{plain_deed}
+use Rattle.site_model.specs.Delete.{aliases_left, delete_rules, deleted_at_once, count_gone}
 use Rattle.site_model.specs.Losing.{DesksIn, is_suspect}
 use Rattle.site_model.specs.LosingLaws.{desks_within}
 use Rattle.site_model.specs.Sound.{IsGiven}
+use Rattle.site_model.proofs.DeletedForm.{deletion_at_once}
 use Rattle.site_model.proofs.LosingFacts.{deletion_ends_all}
 use Rattle.grants.specs.Plans.{HasPlan, pages_of}
+use Rattle.grants.specs.Standing.{IsSame}
 use Rattle.grants.specs.declared.part.TreePart.{TreePart as KeptPart}
+use Rattle.grants.proofs.StandingLemmas.{same_ready}
+use Rattle.tree_edits.specs.Leaving.{AreDetached}
+use Rattle.tree_edits.specs.declared.leaving.LeftAliases.{LeftAliases}
 use Rattle.tree_edits.specs.Plans.{IsAsked, IsSoundTree}
 use Rattle.tree_edits.proofs.DeletionChange.{deletion_plan, deletion_fits, deletion_leads}
 use Rattle.tree_edits.proofs.CommandLemmas.{delete_names, delete_own, delete_done, delete_desk}
@@ -66,18 +72,25 @@ count_fits part page sound =
     let next = sound.next_page.1 in
     omega (arith, fits, next)
 
--- the plan of a deletion can be committed: the desks on the page and below it end
-pub deletion_planned : (kept : KeptPart) (part : TreePart) (desk : Option ContentValue)
-    (now caller page removed : ℕ) (gone shut : List ℕ) (time : ℕ) →
-    IsAsked kept part caller (Delete page) → gone ≡ ids_of (node_of page part.tree) →
+-- the plan of a deletion can be committed where room was made: the desks on the page and below it
+-- end
+pub deletion_planned : (kept room : KeptPart) (part : TreePart) (desk : Option ContentValue)
+    (now caller page removed : ℕ) (gone shut : List ℕ) (left : LeftAliases)
+    (time next_page next_revision : ℕ) → IsAsked kept part caller (Delete page) →
+    IsSame kept room → length left.revisions ≤ room.shelf.spare →
+    delete_rules part now caller page ≡ None →
+    AreDetached part (time_at part now) caller (aliases_left part page) left →
+    gone ≡ ids_of (node_of page part.tree) →
     shut ≡ pages_of (filter (is_suspect part (DesksIn page)) part.desk_pairs) →
-    removed ≡ length gone → time ≡ max kept.time now →
-    HasPlan kept part desk now caller (Delete page)
-    (deletion_plan (Removed removed) page gone shut time kept.next_page kept.next_revision)
-deletion_planned kept part desk now caller page removed gone shut time asked gone_is shut_is
-    removed_is time_is =
+    removed ≡ length gone → time ≡ max kept.time now → next_page ≡ kept.next_page →
+    next_revision ≡ part.next_revision + length (aliases_left part page) →
+    HasPlan room part desk now caller (Delete page)
+    (deletion_plan (Removed removed) page gone left shut time next_page next_revision)
+deletion_planned kept room part desk now caller page removed gone shut left time next_page
+    next_revision asked same spare clear detached gone_is shut_is removed_is time_is page_is
+    revision_is =
     let named = delete_names part caller page asked.front in
-    let after = without_page part now page in
+    let after = deleted_at_once part now caller page in
     let reply = Removed (count_gone part page) in
     let ended = desks_within part page in
     let sound = asked.ready.reached.sound in
@@ -85,29 +98,32 @@ deletion_planned kept part desk now caller page removed gone shut time asked gon
       after = left_open after ended part.desk_pairs;
       effect = ending reply ended;
       can = record {
-        ready = asked.ready;
+        ready = same_ready kept room part same asked.ready;
         right = record {
           step = ends_step part desk now caller (Delete page) after reply sound asked.front refl
-              (delete_own part desk now caller page) (delete_desk page)
-              (delete_done part desk now caller page) refl ended
-              (λ left told is. (deletion_ends_all part left told desk now caller page sound is).1);
+              (delete_own part desk now caller page ∙ clear) (delete_desk page)
+              (delete_done part desk now caller page
+              ∙ ap (λ (one : TreePart). plain_deed one reply)
+              (deletion_at_once part now caller page sound)) refl ended
+              (λ left_world told is.
+              (deletion_ends_all part left_world told desk now caller page sound is).1);
           reply = ap Removed (removed_is ∙ ap length gone_is);
           opened = refl;
           shut = shut_is;
           no_text = refl;
           fits = record {
-            change = deletion_fits part page gone time kept.next_page kept.next_revision sound.pages
-                named.0 named.1 gone_is;
+            change = deletion_fits part now caller page sound named.0 named.1 left detached gone time
+                next_page next_revision gone_is;
             opened = tt;
           };
-          leads = deletion_leads part now page ended (Removed removed) gone shut time kept.next_page
-              kept.next_revision sound.pages named.0 gone_is shut_is
+          leads = deletion_leads part now caller page sound named.0 named.1 left detached ended
+              (Removed removed) gone shut time next_page next_revision gone_is shut_is
               (time_is ∙ ap (λ t. max t now) asked.ready.stands.time)
-              asked.ready.stands.next_page asked.ready.stands.next_revision;
+              (page_is ∙ asked.ready.stands.next_page) revision_is;
         };
         room = record {
           rows = omega arith;
-          revisions = omega arith;
+          revisions = spare;
           people = omega arith;
           desks = omega arith;
         };

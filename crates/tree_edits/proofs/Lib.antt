@@ -8,11 +8,16 @@ pub mod CommandLemmas
 pub mod EndingSteps
 pub mod StepRows
 pub mod AskedLemmas
+pub mod QuietPlans
 pub mod MoveRefusals
 pub mod MovePlans
 pub mod ListedUrls
 pub mod MoveChange
 pub mod MoveLemmas
+pub mod LeavingRows
+pub mod LeavingRules
+pub mod LeavingLists
+pub mod LeavingMade
 pub mod DeletionChange
 pub mod DeletionLemmas
 pub mod SlugPlans
@@ -23,4 +28,7 @@ pub mod SlugLemmas
 pub mod CreationPlan
 pub mod CreationRows
 pub mod CreationRules
+pub mod NewcomerLemmas
 pub mod CreationLemmas
+pub mod AliasLemmas
+pub mod DetachLemmas

@@ -14,7 +14,7 @@ use Rattle.page_store.specs.Pages.{Page, EachPair, HasOtherId}
 use Rattle.page_store.specs.Relabelling.{AreListed}
 use Rattle.page_store.proofs.AllLemmas.{All-map, All-weaker}
 use Rattle.page_store.proofs.SeenLemmas.{found_by_own_id}
-use Rattle.path_moves.proofs.ApplyAfter.{distinct_from_rows}
+use Rattle.path_moves.proofs.ApplyAfter.{distinct_rows}
 use Rattle.tree_edits.proofs.ReplyLemmas.{own_ids_of}
 use Rattle.tree_edits.proofs.SlugTree.{distinct-renamed}
 
@@ -59,7 +59,7 @@ changed_listed before after own there =
           (λ (row : Page). (row.id, row.url)) some
           (all_some (λ (row : Page). IsSome (row_with row.id before)) keep after there);
       once = subst (λ ids. IsDistinct nat_eq ids) (sym (ids_of_pairs some))
-          (distinct_from_rows some (own_some keep after own));
+          (distinct_rows some (own_some keep after own));
     }
 
 module _ (tree : Forest Body) (distinct : HasDistinctIds tree) (page : ℕ) (new : List ℕ) where

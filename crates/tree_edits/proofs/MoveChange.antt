@@ -16,7 +16,7 @@ use Rattle.page_store.specs.declared.plan.MovePlan.{MovePlan}
 use Rattle.page_store.proofs.AllLemmas.{All-append}
 use Rattle.path_moves.specs.Applying.{IsMovable, IsPlanned, IsFree}
 use Rattle.path_moves.specs.Plans.{plan_of, planned_move}
-use Rattle.path_moves.proofs.ApplyAfter.{planned_clear, distinct_from_rows}
+use Rattle.path_moves.proofs.ApplyAfter.{planned_clear, distinct_rows}
 use Rattle.path_moves.proofs.ApplyCall.{IsCall, call_is}
 use Rattle.path_moves.proofs.ApplyChanges.{distinct_complete}
 use Rattle.slug_urls.specs.Flat.{taken_by, other_kid}
@@ -180,4 +180,4 @@ module _ (tree : Forest Body) (page target : ℕ) (position : Position) (plan : 
       (sym page_is)
       ∙ (ap (λ u. with_urls u (rows_of tree) (rows_of then)) is.urls_are
       ∙ distinct_complete (rows_of tree) (rows_of then)
-      (distinct_from_rows (rows_of then) (own_ids_of then is.distinct)))))
+      (distinct_rows (rows_of then) (own_ids_of then is.distinct)))))

@@ -10,6 +10,7 @@ use Rattle.site_types.specs.declared.page_row.PageRow.{PageRow}
 use Rattle.site_types.specs.declared.refusal.Refusal.{Refusal}
 use Rattle.site_types.specs.declared.refusal.Refusal.TheVariants.{IdsFull}
 use Rattle.site_types.specs.declared.reply.Reply.TheVariants.{Page}
+use Rattle.site_types.specs.declared.revision.Revision.{Revision}
 use Rattle.tree_model.specs.Changes.{url_in}
 use Rattle.tree_model.specs.Limits.{MAX_URL}
 use Rattle.path_moves.specs.Append.{appended_path}
@@ -25,6 +26,7 @@ use Rattle.grants.specs.Plans.{quiet_plan}
 use Rattle.grants.specs.declared.plan.Plan.{Plan}
 use Rattle.tree_edits.specs.declared.place.NewPlace.{NewPlace}
 use Rattle.tree_edits.specs.declared.creation.NewPage.{NewPage}
+use Rattle.tree_edits.specs.declared.newcomer.Newcomer.{Newcomer}
 
 -- the tree with a page made below a parent
 abbrev pub with_page : Forest Body → ℕ → ℕ → List ℕ → Body → Forest Body
@@ -83,28 +85,36 @@ pub record IsNewPage (part : worlds.TreePart) (parent : ℕ) (slug : List ℕ) (
   pub page : made.page ≡ part.next_page
   pub revision : made.revision ≡ part.next_revision
 
--- the row of a page that was just made at a path
-abbrev pub fresh_row : ℕ → ℕ → ℕ → List ℕ → List ℕ → PageRow
-fresh_row owner page revision path slug =
+-- the row of a page that comes at a path
+abbrev pub row_at : ℕ → List ℕ → List ℕ → Body → PageRow
+row_at page path slug body =
     record {
       id = page;
       path = path_text path;
       depth = length path;
       numchild = 0;
       slug = slug;
-      body = fresh_body owner revision;
+      body = body;
     }
 
--- what a creation changes: a row comes with its first revision, and the next ids go up
-abbrev pub creation_change : ℕ → ℕ → NewPlace → List ℕ → ContentValue → ℕ → ℕ → Change
-creation_change page revision place slug content caller time =
-    let rows = (fresh_row caller page revision place.path slug, place.url) ∷ [] in
-    record (tree_change (Insert rows) time (page + 1) (revision + 1)) {
-      revisions = plain_revision revision page caller time content ∷ [];
+-- What a page that comes changes: its row, revisions that come with it, and the next ids.
+abbrev pub newcomer_change : Newcomer → List ℕ → List Revision → ℕ → ℕ → Change
+newcomer_change newcomer slug revisions time next_revision =
+    let row = row_at newcomer.id newcomer.place.path slug newcomer.body in
+    let rows = (row, newcomer.place.url) ∷ [] in
+    record (tree_change (Insert rows) time (newcomer.id + 1) next_revision) {
+      revisions = revisions;
     }
+
+-- the plan of a page that comes
+abbrev pub newcomer_plan : Newcomer → List ℕ → List Revision → ℕ → ℕ → Plan
+newcomer_plan newcomer slug revisions time next_revision =
+    quiet_plan (Page newcomer.id (path_text newcomer.place.path) newcomer.place.url)
+    (newcomer_change newcomer slug revisions time next_revision)
 
 -- the plan of a creation
 abbrev pub creation_plan : NewPage → List ℕ → ContentValue → ℕ → ℕ → Plan
 creation_plan made slug content caller time =
-    quiet_plan (Page made.page (path_text made.place.path) made.place.url)
-    (creation_change made.page made.revision made.place slug content caller time)
+    newcomer_plan
+    (record { id = made.page; place = made.place; body = fresh_body caller made.revision }) slug
+    (plain_revision made.revision made.page caller time content ∷ []) time (made.revision + 1)

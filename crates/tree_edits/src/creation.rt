@@ -1,25 +1,22 @@
 //! Plans of creations.
-ghost use Rattle.std.specs.Prelude.{◌≡◌, ◌≤◌, Option, [], ◌∷◌, IfOk, OnOk};
+ghost use Rattle.std.specs.Prelude.{◌≡◌, Option, IfOk};
 ghost use Rattle.site_types.specs.Content.{ContentValue};
 ghost use Rattle.site_types.specs.declared.command.Command.TheVariants as commands;
 ghost use Rattle.site_model.specs.World as worlds;
-ghost use Rattle.site_model.specs.Create.{fresh_body, plain_revision};
 ghost use Rattle.site_model.specs.Rules.{first_of};
 ghost use Rattle.grants.specs.Plans.{Prepares};
 ghost use Rattle.grants.specs.Standing.{IsReady, IsSame};
 ghost use Rattle.tree_edits.specs.Plans.{PlansBy, IsAsked};
-ghost use Rattle.tree_edits.specs.Making.{IdsGiven, page_rules, IsNewPage, fresh_row, creation_plan};
+ghost use Rattle.tree_edits.specs.Making.{IdsGiven, page_rules, IsNewPage, creation_plan};
 
+use crate::newcomer::{Newcomer, new_body, new_revision, newcomer_plan, one_item};
 use crate::place::{NewPlace, plan_place};
-use crate::telling::{later, text_of};
-use grants::{Change, Fault, Plan, TreeChange, TreePart};
+use crate::room::make_room;
+use crate::telling::later;
+use grants::{Fault, Plan, TreePart};
 use revision_shelf::MAX_CONTENT_SUM;
-use site_types::{
-    Body, Content, Items, Moment, NoMemory, PageId, PageRow, Refusal, Reply, Revision, RevisionId,
-    Slug, UserId,
-};
+use site_types::{Content, Moment, NoMemory, PageId, Refusal, RevisionId, Slug, UserId};
 use std::alloc::Global;
-use step_path::Path;
 
 /// A page that may be made.
 #[derive(Drop)]
@@ -56,7 +53,7 @@ pub(crate) fn plan_creation(
         Ok(made) => made,
         Err(fault) => return Err(fault),
     };
-    let Ok(()) = make_room(part) else {
+    let Ok(()) = make_room(part, 1, 1) else {
         return Err(Fault::Memory);
     };
     match new_plan(alloc, made, slug, content, caller, later(part.time, now)) {
@@ -112,17 +109,6 @@ fn next_ids(part: &TreePart) -> Option<(PageId, RevisionId)>
     }
 }
 
-/// Makes room for a page and for a revision.
-fn make_room(part: &mut TreePart) -> Result<(), NoMemory>
-    ensures same { IsSame part.old part.new }
-    ensures pages { OnOk result (1 ≤ part.new.rows.spare) }
-    ensures revisions { OnOk result (1 ≤ part.new.shelf.spare) }
-{
-    part.rows.reserve(1)?;
-    part.shelf.reserve(1)?;
-    Ok(())
-}
-
 /// The plan of a page that is made.
 fn new_plan(
     alloc: Global,
@@ -140,82 +126,12 @@ fn new_plan(
         page,
         revision,
     } = made;
-    let told = place.url.copy(alloc)?;
-    let reply = Reply::Page {
-        id: page,
-        path: text_of(&place.path),
-        url: told,
-    };
-    let row = new_row(caller, page, revision, &place.path, slug);
-    let rows = one_item(alloc, (row, place.url))?;
     let first = new_revision(revision, page, caller, time, content);
     let revisions = one_item(alloc, first)?;
-    let tree = TreeChange::Insert { rows };
-    let mut change = Change::of_tree(alloc, tree, time, page.get() + 1, revision.get() + 1);
-    change.revisions = revisions;
-    Ok(Plan::quiet(alloc, reply, change))
-}
-
-/// A list of one item.
-fn one_item<T: Drop>(alloc: Global, item: T) -> Result<Items<T>, NoMemory>
-    ensures { IfOk result (λ items. items ≡ item ∷ []) }
-{
-    let mut items = Vec::with_capacity(alloc, 1)?;
-    items.push(item)?;
-    Ok(Items::from_vec(items))
-}
-
-/// The row of a page that is made at this path, with its first revision.
-fn new_row(owner: UserId, page: PageId, revision: RevisionId, path: &Path, slug: &Slug) -> PageRow
-    ensures { result ≡ fresh_row owner page revision path.now slug.now }
-{
-    PageRow {
+    let newcomer = Newcomer {
         id: page,
-        path: text_of(path),
-        depth: path.depth(),
-        numchild: 0,
-        slug: slug.copy(),
-        body: new_body(owner, revision),
-    }
-}
-
-/// What is kept of a page that was just made by this user with this revision.
-fn new_body(owner: UserId, revision: RevisionId) -> Body
-    ensures { result ≡ fresh_body owner revision }
-{
-    Body {
-        owner,
-        source: None,
-        live: false,
-        expired: false,
-        shown: Some(revision),
-        latest: Some(revision),
-        scheduled: None,
-        first_published: None,
-        last_published: None,
-        locked_by: None,
-        workflow: None,
-        moderation: None,
-    }
-}
-
-/// A revision by this user without moments.
-fn new_revision(
-    id: RevisionId,
-    page: PageId,
-    by: UserId,
-    made: Moment,
-    content: Content,
-) -> Revision
-    ensures { result ≡ plain_revision id page by made content }
-{
-    Revision {
-        id,
-        page,
-        by,
-        made,
-        content,
-        go_live: None,
-        expire: None,
-    }
+        place,
+        body: new_body(caller, revision),
+    };
+    newcomer_plan(alloc, newcomer, slug, revisions, time, revision.get() + 1)
 }

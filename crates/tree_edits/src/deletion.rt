@@ -1,50 +1,64 @@
 //! Plans of deletions.
-ghost use Rattle.std.specs.Prelude.{◌≡◌, ℕ, Option};
+ghost use Rattle.std.specs.Prelude.{◌≡◌, Option};
 ghost use Rattle.site_types.specs.Content.{ContentValue};
 ghost use Rattle.site_types.specs.declared.command.Command.TheVariants as commands;
 ghost use Rattle.site_model.specs.World as worlds;
 ghost use Rattle.grants.specs.Plans.{Prepares};
+ghost use Rattle.grants.specs.Standing.{IsSame};
 ghost use Rattle.tree_edits.specs.Plans.{IsAsked};
 
+use crate::leaving::{LeftAliases, plan_leaving};
+use crate::room::make_room;
 use crate::telling::later;
 use grants::{Change, Fault, Plan, TreeChange, TreePart};
 use lost_desks::lost_by_deletion;
 use path_moves::plan_delete;
-use site_types::{Moment, PageId, Reply};
+use site_types::{Moment, PageId, Reply, UserId};
 use std::alloc::Global;
 
 /// The plan of a deletion of a page that is there and below the root, which its caller may give. The
-/// desks on the page and below it end.
+/// desks on the page and below it end, and its aliases elsewhere, and those of pages below it,
+/// become regular pages.
 ///
-/// It costs a look-up for each page that goes, and for each open desk a look-up for each page above
-/// it; no room is needed.
+/// It costs a look at each page and at each revision of the site, and for each open desk a look-up
+/// for each page above it; for each alias a copy of the content that it shows.
 pub(crate) fn plan_deletion(
     alloc: Global,
-    part: &TreePart,
+    part: &mut TreePart,
     page: PageId,
+    caller: UserId,
     now: Moment,
 ) -> Result<Plan, Fault>
-    requires { (world : worlds.TreePart) × (caller : ℕ)
-        × IsAsked part.now world caller (commands.Delete page) }
-    ensures { (world : worlds.TreePart) (desk : Option ContentValue) (caller : ℕ)
-        → IsAsked part.now world caller (commands.Delete page)
-        → Prepares world desk now caller (commands.Delete page) part.now result }
+    requires { (world : worlds.TreePart) × IsAsked part.old world caller (commands.Delete page) }
+    ensures same { IsSame part.old part.new }
+    ensures plan { (world : worlds.TreePart) (desk : Option ContentValue)
+        → IsAsked part.old world caller (commands.Delete page)
+        → Prepares world desk now caller (commands.Delete page) part.new result }
 {
+    let _len = part.rows.len();
+    let left = match plan_leaving(alloc, part, page, caller, now) {
+        Ok(left) => left,
+        Err(fault) => return Err(fault),
+    };
     let Ok(gone) = plan_delete(alloc, &part.rows, page) else {
         return Err(Fault::Memory);
     };
     let Ok(shut) = lost_by_deletion(alloc, part, page) else {
         return Err(Fault::Memory);
     };
+    let time = later(part.time, now);
+    let next_page = part.next_page;
+    let next_revision = part.next_revision + left.revisions.len() as u32;
+    let Ok(()) = make_room(part, 0, left.revisions.len()) else {
+        return Err(Fault::Memory);
+    };
     let reply = Reply::Removed(gone.len() as u32);
-    let mut change = Change::of_tree(
-        alloc,
-        TreeChange::Delete { page },
-        later(part.time, now),
-        part.next_page,
-        part.next_revision,
-    );
+    let tree = TreeChange::Delete { page };
+    let mut change = Change::of_tree(alloc, tree, time, next_page, next_revision);
     change.gone = gone;
+    let LeftAliases { bodies, revisions } = left;
+    change.bodies = bodies;
+    change.revisions = revisions;
     let mut plan = Plan::quiet(alloc, reply, change);
     plan.shut = shut;
     Ok(plan)

@@ -7,8 +7,10 @@ ghost use Rattle.grants.specs.Standing.{IsReady, IsSame};
 ghost use Rattle.grants.specs.Plans.{Prepares};
 ghost use Rattle.tree_edits.specs.Plans.{IsAsked, is_on_tree};
 
+use crate::aliasing::plan_aliasing;
 use crate::creation::plan_creation;
 use crate::deletion::plan_deletion;
+use crate::detaching::plan_detaching;
 use crate::moving::plan_moving;
 use crate::renaming::plan_renaming;
 use grants::{Fault, Plan, TreePart, front};
@@ -66,8 +68,14 @@ fn plan_passed(
             target,
             position,
         } => plan_moving(alloc, part, *page, *target, *position, now),
-        Command::Delete { page } => plan_deletion(alloc, part, *page, now),
+        Command::Delete { page } => plan_deletion(alloc, part, *page, caller, now),
         Command::SetSlug { page, slug } => plan_renaming(alloc, part, *page, slug, now),
+        Command::Alias {
+            source,
+            parent,
+            slug,
+        } => plan_aliasing(alloc, part, *source, *parent, slug, caller, now),
+        Command::Detach { page } => plan_detaching(alloc, part, *page, caller, now),
         _ => unreachable!(),
     }
 }

@@ -11,7 +11,7 @@ use Rattle.site_ids.specs.Slug.{IsSlug}
 use Rattle.site_ids.specs.declared.digest.TheConstants.{DIGEST_BYTES}
 use Rattle.site_types.specs.Content.{ContentValue, FitsLimits}
 use Rattle.site_types.specs.declared.command.Command.{Command}
-use Rattle.site_types.specs.declared.command.Command.TheVariants.{Create, Move, SetSlug, SaveDesk, File, DefineUser, DefineGroup, Member, Grant}
+use Rattle.site_types.specs.declared.command.Command.TheVariants.{Create, Move, SetSlug, Alias, Copy, SaveDesk, File, DefineUser, DefineGroup, Member, Grant, Tick}
 use Rattle.site_types.specs.declared.permission.Permission.{Permission}
 use Rattle.site_types.specs.declared.position.Position.{Position}
 use Rattle.http_model.specs.declared.method.Method.{Method}
@@ -28,7 +28,7 @@ use Rattle.wire_model.specs.declared.form.PageVerb.{PageVerb}
 use Rattle.wire_model.specs.declared.form.ReadForm.{ReadForm}
 use Rattle.wire_model.specs.declared.form.ReadForm.TheVariants as reads
 use Rattle.wire_model.specs.Tables.{named}
-use Rattle.wire_model.specs.Forms.{id_at, slug_at, content_at, position_at, permission_at, truth_at, user_at, group_at, digest_at, creation_of, move_of, slug_change_of, saving_of, filing_of, command_on, user_definition_of, membership_of, grant_asked_of, command_in, command_asked, data_of}
+use Rattle.wire_model.specs.Forms.{id_at, slug_at, content_at, position_at, permission_at, truth_at, user_at, group_at, digest_at, creation_of, move_of, slug_change_of, alias_of, copy_of, saving_of, filing_of, command_on, user_definition_of, membership_of, grant_asked_of, command_in, command_asked, data_of}
 use Rattle.wire_model.specs.Times.{time_at}
 use Rattle.wire_model.specs.Routes.{Route, command_routes, read_routes, command_route, read_route, has_part_after, after_front, read_at, command_at, is_api, beside, id_written, closed_path, or_fault, by_post, by_get, read_call, call_on, route_of, call_of}
 use Rattle.wire_model.specs.Routes as routes
@@ -64,6 +64,10 @@ pub record HoldsOfForms (Such : Command → Type 0) (test : CommandForm → Bool
       FitsLimits content → Such (Create parent slug content)
   pub moving : (page target : ℕ) (position : Position) → Such (Move page target position)
   pub naming : (page : ℕ) (slug : List ℕ) → IsSlug slug → Such (SetSlug page slug)
+  pub shadowing : (source parent : ℕ) (slug : List ℕ) → IsSlug slug →
+      Such (Alias source parent slug)
+  pub copying : (page parent : ℕ) (slug : List ℕ) (deep : Bool) → IsSlug slug →
+      test forms.Copy ≡ true → Such (Copy page parent slug deep)
   pub saving : (page : ℕ) (content : ContentValue) → FitsLimits content →
       Such (SaveDesk page content)
   pub filing : (page : ℕ) (go_live expire : Option ℕ) → IfSome go_live IsMoment →
@@ -76,6 +80,7 @@ pub record HoldsOfForms (Such : Command → Type 0) (test : CommandForm → Bool
   pub membership : (user group : ℕ) (on : Bool) → Such (Member user group on)
   pub granting : (group page : ℕ) (permission : Permission) (on : Bool) →
       Such (Grant group page permission on)
+  pub ticking : Such Tick
 
 -- the first of two that hold together holds
 first_holds : (first second : Bool) → (first && second) ≡ true → first ≡ true
@@ -189,6 +194,24 @@ module _ (Such : Command → Type 0) (test : CommandForm → Bool) (hold : Holds
   slug_is (Some page) None is = tt
   slug_is None slug is = tt
 
+  -- so is an alias
+  alias_is : (source parent : Option ℕ) (slug : Option (List ℕ)) → AreSlugs slug →
+      AreSuch Such (alias_of source parent slug)
+  alias_is (Some source) (Some parent) (Some slug) is = hold.shadowing source parent slug is
+  alias_is (Some source) (Some parent) None is = tt
+  alias_is (Some source) None slug is = tt
+  alias_is None parent slug is = tt
+
+  -- so is a copy
+  copy_is : (page parent : Option ℕ) (slug : Option (List ℕ)) (deep : Option Bool) →
+      AreSlugs slug → test forms.Copy ≡ true → AreSuch Such (copy_of page parent slug deep)
+  copy_is (Some page) (Some parent) (Some slug) (Some deep) is passed =
+      hold.copying page parent slug deep is passed
+  copy_is (Some page) (Some parent) (Some slug) None is passed = tt
+  copy_is (Some page) (Some parent) None deep is passed = tt
+  copy_is (Some page) None slug deep is passed = tt
+  copy_is None parent slug deep is passed = tt
+
   -- so is the saving of a text
   saving_is : (page : Option ℕ) (content : Option ContentValue) → IfSome content FitsLimits →
       AreSuch Such (saving_of page content)
@@ -253,6 +276,18 @@ module _ (Such : Command → Type 0) (test : CommandForm → Bool) (hold : Holds
       (slug_change_of (id_at (codes "page") value) (slug_at value))
       (slug_is (id_at (codes "page") value) (slug_at value)
       (member_slug (get (codes "slug") value)))
+  form_is forms.Alias value passed =
+      such_if Such (has_exactly (codes "parent" ∷ codes "slug" ∷ codes "source" ∷ []) value)
+      (alias_of (id_at (codes "source") value) (id_at (codes "parent") value) (slug_at value))
+      (alias_is (id_at (codes "source") value) (id_at (codes "parent") value) (slug_at value)
+      (member_slug (get (codes "slug") value)))
+  form_is forms.Copy value passed =
+      such_if Such
+      (has_exactly (codes "deep" ∷ codes "page" ∷ codes "parent" ∷ codes "slug" ∷ []) value)
+      (copy_of (id_at (codes "page") value) (id_at (codes "parent") value) (slug_at value)
+      (truth_at (codes "deep") value))
+      (copy_is (id_at (codes "page") value) (id_at (codes "parent") value) (slug_at value)
+      (truth_at (codes "deep") value) (member_slug (get (codes "slug") value)) passed)
   form_is (forms.OnPage verb) value passed =
       such_if Such (has_exactly (codes "page" ∷ []) value)
       (option_map (command_on verb) (id_at (codes "page") value))
@@ -288,6 +323,8 @@ module _ (Such : Command → Type 0) (test : CommandForm → Bool) (hold : Holds
       (truth_at (codes "on") value))
       (grant_is (group_at value) (id_at (codes "page") value) (permission_at value)
       (truth_at (codes "on") value))
+  form_is forms.Tick value passed =
+      such_if Such (has_exactly [] value) (Some Tick) hold.ticking
 
   -- what a body asks for by a form that passes is one of these
   body_is : (form : CommandForm) (found : Option Data) → test form ≡ true →
@@ -313,6 +350,8 @@ module _ (Such : Command → Type 0) (test : CommandForm → Bool) (hold : Holds
       AsksSuch Such (or_fault (option_map (read_call form) id) Form)
   read_is reads.Card (Some id) = tt
   read_is reads.Card None = tt
+  read_is reads.Refs (Some id) = tt
+  read_is reads.Refs None = tt
   read_is reads.Desk (Some id) = tt
   read_is reads.Desk None = tt
 

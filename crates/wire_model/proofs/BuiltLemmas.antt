@@ -1,7 +1,8 @@
 -- Each command that a request can ask for is built.
-use Rattle.std.proofs.Common.{◌≡◌, ℕ, Bool, true, Ok, refl, ◌∙◌}
+use Rattle.std.proofs.Common.{◌≡◌, ℕ, Bool, true, false, [], Ok, refl, ◌∙◌}
 use Rattle.std.specs.Prelude.{IsTrue}
 use Rattle.site_types.specs.declared.command.Command.{Command}
+use Rattle.site_types.specs.declared.command.Command.TheVariants.{Copy}
 use Rattle.http_model.specs.Requests.{Request}
 use Rattle.wire_model.specs.declared.call.Call.TheVariants.{Run}
 use Rattle.wire_model.specs.declared.form.CommandForm.{CommandForm}
@@ -22,6 +23,8 @@ abbrev form_built : CommandForm → Bool
 form_built forms.Create = true
 form_built forms.Move = true
 form_built forms.SetSlug = true
+form_built forms.Alias = true
+form_built forms.Copy = is_built (Copy 1 1 [] false)
 form_built (forms.OnPage verb) = is_built (command_on verb 1)
 form_built forms.Save = true
 form_built forms.File = true
@@ -29,6 +32,7 @@ form_built forms.DefineUser = true
 form_built forms.DefineGroup = true
 form_built forms.Member = true
 form_built forms.Grant = true
+form_built forms.Tick = true
 
 -- whether a command of a verb is built does not depend on the page
 verb_built : (verb : PageVerb) (page : ℕ) →
@@ -54,6 +58,8 @@ all_built = record {
   creation = λ parent slug content is fits. refl;
   moving = λ page target position. refl;
   naming = λ page slug is. refl;
+  shadowing = λ source parent slug is. refl;
+  copying = λ page parent slug deep is passed. passed;
   saving = λ page content fits. refl;
   filing = λ page go_live expire live ends. refl;
   on_page = λ verb page passed. verb_built verb page ∙ passed;
@@ -61,6 +67,7 @@ all_built = record {
   group = refl;
   membership = λ user group on. refl;
   granting = λ group page permission on. refl;
+  ticking = refl;
 }
 
 -- each command that a request can ask for is built

@@ -35,6 +35,8 @@ all_fit = record {
   creation = λ parent slug content is fits. (is, fits);
   moving = λ page target position. tt;
   naming = λ page slug is. is;
+  shadowing = λ source parent slug is. is;
+  copying = λ page parent slug deep is passed. is;
   saving = λ page content fits. fits;
   filing = λ page go_live expire live ends. (live, ends);
   on_page = λ verb page passed. verb_fits verb page;
@@ -42,6 +44,7 @@ all_fit = record {
   group = tt;
   membership = λ user group on. tt;
   granting = λ group page permission on. tt;
+  ticking = tt;
 }
 
 -- each command that a request can ask for fits

@@ -17,11 +17,12 @@ use Rattle.http_model.proofs.FrontLemmas.{one_front}
 use Rattle.http_model.proofs.FinalLemmas.{final_stays}
 use Rattle.public_view.specs.declared.card.Card.{Card}
 use Rattle.wire_model.specs.declared.call.Call.{Call}
-use Rattle.wire_model.specs.declared.call.Call.TheVariants.{Run, Page, Desk, Public}
+use Rattle.wire_model.specs.declared.call.Call.TheVariants.{Run, Page, Refs, Desk, Public}
 use Rattle.wire_model.specs.declared.call.RouteFault.{RouteFault}
 use Rattle.sight_model.specs.Cards.{card_of, answer_of}
+use Rattle.sight_model.specs.References.{refs_shown}
 use Rattle.wire_model.specs.Routes.{call_of}
-use Rattle.wire_model.specs.Exchange.{Past, IsLegal, decider, tally_of, user_of, entry_of, Outcome, decided, run, card_told, desk_told, public_told, called, called_by, called_with, asked, exchange}
+use Rattle.wire_model.specs.Exchange.{Past, IsLegal, decider, tally_of, user_of, entry_of, Outcome, decided, run, card_told, refs_told, desk_told, public_told, called, called_by, called_with, asked, exchange}
 use Rattle.wire_model.specs.Transcript.{Told, outcome, after_told, EndsWhereClosing, Follows, closes, HasMoments}
 use Rattle.wire_model.specs.Laws.{AsksNothing}
 
@@ -50,6 +51,12 @@ card_legal : (tally : Tally World) (id : ℕ) (card : Option Card) →
 card_legal tally id (Some card) = tt
 card_legal tally id None = tt
 
+-- neither does what is told of references
+refs_legal : (tally : Tally World) (id : ℕ) (refs : Option (List ℕ)) →
+    AddsLegal tally (refs_told id refs)
+refs_legal tally id (Some refs) = tt
+refs_legal tally id None = tt
+
 -- the text of a desk adds nothing
 desk_legal : (tally : Tally World) (text : Option ContentValue) → AddsLegal tally (desk_told text)
 desk_legal tally (Some text) = tt
@@ -65,6 +72,7 @@ called_legal : (tally : Tally World) (user moment : ℕ) (call : Call) →
     AddsLegal tally (called tally user moment call)
 called_legal tally user moment (Run command) = run_legal tally user moment command _ refl
 called_legal tally user moment (Page id) = card_legal tally id (card_of tally.world id)
+called_legal tally user moment (Refs id) = refs_legal tally id (refs_shown tally.world id)
 called_legal tally user moment (Desk id) = desk_legal tally (text_at tally.world.desks id user)
 called_legal tally user moment (Public url) = public_legal tally (answer_of tally.world url)
 
@@ -81,6 +89,8 @@ called_with_legal tally moment token (Run command) =
     called_by_legal tally moment (Run command) (user_of tally.world token)
 called_with_legal tally moment token (Page id) =
     called_by_legal tally moment (Page id) (user_of tally.world token)
+called_with_legal tally moment token (Refs id) =
+    called_by_legal tally moment (Refs id) (user_of tally.world token)
 called_with_legal tally moment token (Desk id) =
     called_by_legal tally moment (Desk id) (user_of tally.world token)
 called_with_legal tally moment token (Public url) =

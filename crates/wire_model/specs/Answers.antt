@@ -21,7 +21,7 @@ use Rattle.site_types.specs.declared.refusal.Refusal.TheVariants.{NoPage, Denied
 use Rattle.site_types.specs.declared.reply.Reply.{Reply}
 use Rattle.site_types.specs.declared.reply.Reply.TheVariants as replies
 use Rattle.wire_model.specs.declared.answer.Answer.{Answer}
-use Rattle.wire_model.specs.declared.answer.Answer.TheVariants.{Accepted, Public, Page, Desk, Refused, NotFound, NotBuilt, Method, Form, NoUser, Head, Memory}
+use Rattle.wire_model.specs.declared.answer.Answer.TheVariants.{Accepted, Public, Page, Refs, Desk, Refused, NotFound, NotBuilt, Method, Form, NoUser, Head, Memory}
 
 -- a whole number
 abbrev pub whole : ℕ → Data
@@ -119,6 +119,10 @@ card_data card =
     (member (codes "unpublished_changes") (boolean (has_unpublished_changes body body.latest))
     (member (codes "url") (string card.url) no_members)))))))))))))))))))))
 
+-- the body that tells which pages link to a page
+abbrev pub refs_data : List ℕ → Data
+refs_data refs = object (member (codes "refs") (wholes refs) no_members)
+
 -- what a public page tells of a live kid
 abbrev pub kid_data : LiveKid → Data
 kid_data kid =
@@ -183,6 +187,7 @@ unfoldable pub response_of : Answer → Response
 response_of (Accepted entry reply) = plain_response statuses.Ok (reply_data entry reply)
 response_of (Public card) = plain_response statuses.Ok (public_data card)
 response_of (Page card) = plain_response statuses.Ok (card_data card)
+response_of (Refs refs) = plain_response statuses.Ok (refs_data refs)
 response_of (Desk text) = plain_response statuses.Ok (content_data text)
 response_of (Refused refusal) = plain_response (refusal_status refusal) (refusal_data refusal)
 response_of NotFound = plain_response statuses.NotFound (error_data (codes "NotFound"))

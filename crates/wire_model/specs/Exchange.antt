@@ -20,10 +20,11 @@ use Rattle.public_view.specs.declared.card.Card.{Card}
 use Rattle.wire_model.specs.declared.answer.Answer.{Answer}
 use Rattle.wire_model.specs.declared.answer.Answer.TheVariants as answers
 use Rattle.wire_model.specs.declared.call.Call.{Call}
-use Rattle.wire_model.specs.declared.call.Call.TheVariants.{Run, Page, Desk, Public}
+use Rattle.wire_model.specs.declared.call.Call.TheVariants.{Run, Page, Refs, Desk, Public}
 use Rattle.wire_model.specs.declared.call.RouteFault.{RouteFault}
 use Rattle.wire_model.specs.declared.call.RouteFault.TheVariants as faults
 use Rattle.sight_model.specs.Cards.{card_of, answer_of}
+use Rattle.sight_model.specs.References.{refs_shown}
 use Rattle.wire_model.specs.Routes.{call_of}
 
 -- a history of the site
@@ -93,6 +94,11 @@ abbrev pub card_told : ℕ → Option Card → Outcome
 card_told id (Some card) = telling (answers.Page card)
 card_told id None = telling (answers.Refused (NoPage id))
 
+-- the pages that link to a page, or that it is not there
+abbrev pub refs_told : ℕ → Option (List ℕ) → Outcome
+refs_told id (Some refs) = telling (answers.Refs refs)
+refs_told id None = telling (answers.Refused (NoPage id))
+
 -- what is written at the caller's desk on a page, or that the caller has none there
 abbrev pub desk_told : Option ContentValue → Outcome
 desk_told (Some text) = telling (answers.Desk text)
@@ -107,6 +113,7 @@ public_told None = telling answers.NotFound
 abbrev pub called : Tally World → ℕ → ℕ → Call → Outcome
 called tally user moment (Run command) = run tally user moment command
 called tally user moment (Page id) = card_told id (card_of tally.world id)
+called tally user moment (Refs id) = refs_told id (refs_shown tally.world id)
 called tally user moment (Desk id) = desk_told (text_at tally.world.desks id user)
 called tally user moment (Public url) = public_told (answer_of tally.world url)
 

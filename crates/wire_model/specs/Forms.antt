@@ -10,7 +10,7 @@ use Rattle.site_types.specs.Content.{ContentValue}
 use Rattle.site_types.specs.declared.command.Command.{Command}
 use Rattle.site_ids.specs.declared.digest.TheConstants.{DIGEST_BYTES}
 use Rattle.site_ids.specs.declared.ids.TheConstants.{LAST_USER_ID, LAST_GROUP_ID}
-use Rattle.site_types.specs.declared.command.Command.TheVariants.{Create, Move, Delete, SetSlug, Detach, OpenDesk, SaveDesk, ShutDesk, File, Publish, Unpublish, Unschedule, Lock, Unlock, Purge, Submit, Approve, Reject, Cancel, DefineUser, DefineGroup, Member, Grant}
+use Rattle.site_types.specs.declared.command.Command.TheVariants.{Create, Move, Delete, SetSlug, Alias, Detach, Copy, OpenDesk, SaveDesk, ShutDesk, File, Publish, Unpublish, Unschedule, Lock, Unlock, Purge, Submit, Approve, Reject, Cancel, DefineUser, DefineGroup, Member, Grant, Tick}
 use Rattle.site_types.specs.declared.permission.Permission.{Permission}
 use Rattle.site_types.specs.declared.position.Position.{Position}
 use Rattle.wire_model.specs.declared.form.CommandForm.{CommandForm}
@@ -181,6 +181,31 @@ slug_change_in value =
     then slug_change_of (id_at (codes "page") value) (slug_at value)
     else None
 
+-- the alias of this page below this parent with this slug
+abbrev pub alias_of : Option ℕ → Option ℕ → Option (List ℕ) → Option Command
+alias_of (Some source) (Some parent) (Some slug) = Some (Alias source parent slug)
+alias_of source parent slug = None
+
+-- the alias that an object asks for: it has exactly the members parent, slug and source
+abbrev pub alias_in : Data → Option Command
+alias_in value =
+    if has_exactly (codes "parent" ∷ codes "slug" ∷ codes "source" ∷ []) value
+    then alias_of (id_at (codes "source") value) (id_at (codes "parent") value) (slug_at value)
+    else None
+
+-- the copy of this page below this parent with this slug, with its descendants or without
+abbrev pub copy_of : Option ℕ → Option ℕ → Option (List ℕ) → Option Bool → Option Command
+copy_of (Some page) (Some parent) (Some slug) (Some deep) = Some (Copy page parent slug deep)
+copy_of page parent slug deep = None
+
+-- the copy that an object asks for: it has exactly the members deep, page, parent and slug
+abbrev pub copy_in : Data → Option Command
+copy_in value =
+    if has_exactly (codes "deep" ∷ codes "page" ∷ codes "parent" ∷ codes "slug" ∷ []) value
+    then copy_of (id_at (codes "page") value) (id_at (codes "parent") value) (slug_at value)
+    (truth_at (codes "deep") value)
+    else None
+
 -- the definition of a user with this digest
 abbrev pub user_definition_of : Option (List ℕ) → Option Bool → Option Command
 user_definition_of (Some digest) (Some superuser) = Some (DefineUser superuser digest)
@@ -223,11 +248,17 @@ grant_in value =
     (truth_at (codes "on") value)
     else None
 
+-- the tick that an object asks for: it has no members
+abbrev pub tick_in : Data → Option Command
+tick_in value = if has_exactly [] value then Some Tick else None
+
 -- the command of a form that an object asks for
 abbrev pub command_in : CommandForm → Data → Option Command
 command_in forms.Create value = creation_in value
 command_in forms.Move value = move_in value
 command_in forms.SetSlug value = slug_change_in value
+command_in forms.Alias value = alias_in value
+command_in forms.Copy value = copy_in value
 command_in (forms.OnPage verb) value = page_command_in verb value
 command_in forms.Save value = saving_in value
 command_in forms.File value = filing_in value
@@ -235,6 +266,7 @@ command_in forms.DefineUser value = user_definition_in value
 command_in forms.DefineGroup value = group_definition_in value
 command_in forms.Member value = membership_in value
 command_in forms.Grant value = grant_in value
+command_in forms.Tick value = tick_in value
 
 -- the command that a body asks for on the route of commands of a form
 unfoldable pub command_asked : CommandForm → List ℕ → Option Command

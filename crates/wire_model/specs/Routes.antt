@@ -12,7 +12,7 @@ use Rattle.http_model.specs.Requests.{Request}
 use Rattle.json_model.specs.Members.{is_within}
 use Rattle.site_ids.specs.declared.ids.TheConstants.{LAST_PAGE_ID}
 use Rattle.wire_model.specs.declared.call.Call.{Call}
-use Rattle.wire_model.specs.declared.call.Call.TheVariants.{Run, Page, Desk, Public}
+use Rattle.wire_model.specs.declared.call.Call.TheVariants.{Run, Page, Refs, Desk, Public}
 use Rattle.wire_model.specs.declared.call.RouteFault.{RouteFault}
 use Rattle.wire_model.specs.declared.call.RouteFault.TheVariants.{NotFound, NotBuilt, Method as WrongMethod, Form}
 use Rattle.wire_model.specs.declared.form.CommandForm.{CommandForm}
@@ -124,6 +124,7 @@ by_get method call = Err (WrongMethod allows.Get)
 -- the call that reads a form of a page
 abbrev pub read_call : ReadForm → ℕ → Call
 read_call reads.Card id = Page id
+read_call reads.Refs id = Refs id
 read_call reads.Desk id = Desk id
 
 -- what a request asks for on a route: the method is tried first, and then the form

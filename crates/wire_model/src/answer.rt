@@ -1,7 +1,7 @@
 //! Answers to requests.
 use http_model::Allow;
 use public_view::Card;
-use site_types::{Content, Refusal, Reply};
+use site_types::{Content, Ids, Refusal, Reply};
 
 /// The answer to a request.
 #[derive(Debug, Drop)]
@@ -12,6 +12,8 @@ pub enum Answer {
     Public(Card),
     /// The card of a page.
     Page(Card),
+    /// The ids of the pages that link to a page, rising.
+    Refs(Ids),
     /// What is written at the caller's desk on a page.
     Desk(Content),
     /// The command was refused, or the page or the desk that is read does not exist.

@@ -11,6 +11,8 @@ pub enum Call {
     Run(Command),
     /// `GET /api/pages/{id}`: the card of the page.
     Page(PageId),
+    /// `GET /api/refs/{id}`: the pages that link to the page.
+    Refs(PageId),
     /// `GET /api/desks/{id}`: what is written at the caller's desk on the page.
     Desk(PageId),
     /// `GET` of any other path: the page with this URL, for everybody.

@@ -9,6 +9,10 @@ pub enum CommandForm {
     Move,
     /// Another slug for a page: page and slug.
     SetSlug,
+    /// An alias of a page: parent, slug and source.
+    Alias,
+    /// A copy of a page: deep, page, parent and slug.
+    Copy,
     /// A command on a page that nothing else is named for: page.
     OnPage(PageVerb),
     /// The saving of the text at a desk: content and page.
@@ -23,6 +27,8 @@ pub enum CommandForm {
     Member,
     /// A grant that is given or withdrawn: group, on, page and permission.
     Grant,
+    /// A tick: no members.
+    Tick,
 }
 
 /// The commands whose bodies name a page alone, `{"page":N}`.
@@ -63,6 +69,8 @@ pub enum PageVerb {
 pub enum ReadForm {
     /// The card of the page.
     Card,
+    /// The pages that link to the page.
+    Refs,
     /// The caller's desk on the page.
     Desk,
 }

@@ -14,6 +14,9 @@ pub const COMMAND_ROUTES: [CommandRoute; 30] = [
     ("/api/move", Some(CommandForm::Move)),
     ("/api/delete", Some(CommandForm::OnPage(PageVerb::Delete))),
     ("/api/slug", Some(CommandForm::SetSlug)),
+    ("/api/alias", Some(CommandForm::Alias)),
+    ("/api/detach", Some(CommandForm::OnPage(PageVerb::Detach))),
+    ("/api/copy", None),
     ("/api/open", Some(CommandForm::OnPage(PageVerb::OpenDesk))),
     ("/api/save", Some(CommandForm::Save)),
     ("/api/shut", Some(CommandForm::OnPage(PageVerb::ShutDesk))),
@@ -23,6 +26,10 @@ pub const COMMAND_ROUTES: [CommandRoute; 30] = [
         "/api/unpublish",
         Some(CommandForm::OnPage(PageVerb::Unpublish)),
     ),
+    (
+        "/api/unschedule",
+        Some(CommandForm::OnPage(PageVerb::Unschedule)),
+    ),
     ("/api/lock", Some(CommandForm::OnPage(PageVerb::Lock))),
     ("/api/unlock", Some(CommandForm::OnPage(PageVerb::Unlock))),
     ("/api/purge", Some(CommandForm::OnPage(PageVerb::Purge))),
@@ -30,10 +37,7 @@ pub const COMMAND_ROUTES: [CommandRoute; 30] = [
     ("/api/groups", Some(CommandForm::DefineGroup)),
     ("/api/members", Some(CommandForm::Member)),
     ("/api/grants", Some(CommandForm::Grant)),
-    ("/api/alias", None),
-    ("/api/detach", None),
-    ("/api/copy", None),
-    ("/api/unschedule", None),
+    ("/api/tick", Some(CommandForm::Tick)),
     ("/api/tasks", None),
     ("/api/workflows", None),
     ("/api/assign", None),
@@ -41,7 +45,6 @@ pub const COMMAND_ROUTES: [CommandRoute; 30] = [
     ("/api/approve", None),
     ("/api/reject", None),
     ("/api/cancel", None),
-    ("/api/tick", None),
     ("/api/checkpoint", None),
 ];
 
@@ -49,5 +52,5 @@ pub const COMMAND_ROUTES: [CommandRoute; 30] = [
 pub const READ_ROUTES: [ReadRoute; 3] = [
     ("/api/pages/", Some(ReadForm::Card)),
     ("/api/desks/", Some(ReadForm::Desk)),
-    ("/api/refs/", None),
+    ("/api/refs/", Some(ReadForm::Refs)),
 ];

@@ -46,7 +46,7 @@ const BYTE_PATHS: [BytePath; 5] = [
     },
     BytePath {
         path: b"/api/refs/\xff",
-        fault: "a route that is not built yet",
+        fault: "not the form of the route",
     },
     BytePath {
         path: b"/api/desks/\xc3",

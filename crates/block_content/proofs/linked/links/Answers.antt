@@ -2,7 +2,7 @@
 use Rattle.std.proofs.Common.{◌≡◌, ◌∙◌}
 use Rattle.std.proofs.lemmas.List.Filters.{dedup_is}
 use Rattle.std.proofs.lemmas.Map.Keys.{IsStrictlyIncreasing-dedup}
-use Rattle.block_content.specs.Linked.{pages_in}
+use Rattle.site_types.specs.Links.{pages_in}
 use Rattle.block_content.proofs.LinkLemmas.{sorted_are_linked}
 use Rattle.block_content.proofs.linked.links.Goals as goal
 

@@ -5,7 +5,7 @@ use Rattle.site_model.specs.Desks as desks
 use Rattle.site_types.specs.declared.revision.Revision.{Revision}
 use Rattle.grants.specs.Standing.{IsSame}
 use Rattle.grants.specs.declared.part.TreePart.{TreePart}
-use Rattle.grants.proofs.StandingLemmas.{same_ready}
+use Rattle.grants.proofs.StandingLemmas.{same_ready, same_shelf}
 use Rattle.flow_edits.proofs.FilePlans.{file_none, file_refused, file_prepared, filed_there}
 use Rattle.flow_edits.proofs.filing.plan_filing.Goals as goal
 
@@ -38,15 +38,7 @@ pub returns-clause-plan : goal.returns-clause-plan
 returns-clause-plan c = λ world asked.
     let kept = c.args.part.now in
     let room : TreePart = record kept { shelf = c.reserve.new.self } in
-    let same : IsSame kept room = record {
-      pages = refl;
-      revisions = c.reserve.ensures.revisions;
-      lists = record { users = refl; groups = refl; members = refl; grants = refl };
-      desks = refl;
-      time = refl;
-      next_page = refl;
-      next_revision = refl;
-    } in
+    let same : IsSame kept room = same_shelf kept c.reserve.new.self c.reserve.ensures.revisions in
     let told = c.in-Ok.ensures world asked.given.ready in
     file_prepared kept room world (option_copied c.args.desk) c.args.now c.args.caller c.args.page
     c.args.go_live c.args.expire asked c.in-Some.text.now (ap option_copied c.in-Some.is)

@@ -1,16 +1,17 @@
 -- The page is there; the scheduler locks nothing; another's desk ends.
 use Rattle.std.proofs.Common.{max, sym, ap, ◌∙◌}
-use Rattle.flow_edits.proofs.Facts.{lock_names, not_missing}
+use Rattle.flow_edits.proofs.Facts.{lock_names}
 use Rattle.flow_edits.proofs.LockPlans.{lock_idle, lock_prepared}
 use Rattle.flow_edits.proofs.locking.plan_lock.Goals as goal
 
-pub unreachable-requires : goal.unreachable-requires
-unreachable-requires c =
+pub kept_of-body-requires : goal.kept_of-body-requires
+kept_of-body-requires c =
     let world = c.requires.0 in
-    let asked = c.requires.2 in
-    not_missing c.args.page world.tree
-    (lock_names world c.args.caller c.args.page asked.front).there
-    (sym c.in_default.is ∙ c.body_of.ensures world.tree asked.given.ready.stands.pages)
+    let asked = c.requires.2 in (
+      world,
+      asked.given.ready.stands,
+      (lock_names world c.args.caller c.args.page asked.front).there,
+    )
 
 pub returns-then-get-eq0 : goal.returns-then-get-eq0
 returns-then-get-eq0 c = λ world desk asked.
@@ -19,8 +20,8 @@ returns-then-get-eq0 c = λ world desk asked.
 
 pub returns : goal.returns
 returns c = λ world desk asked.
-    lock_prepared c.args.part.now world desk c.args.now c.args.caller c.args.page asked c.in-Some.body
-    (sym (c.body_of.ensures world.tree asked.given.ready.stands.pages) ∙ c.in-Some.is)
+    lock_prepared c.args.part.now world desk c.args.now c.args.caller c.args.page asked c.kept_of-body.result
+    (c.kept_of-body.ensures world asked.given.ready.stands)
     (λ none. c.if-get-eq0.false (c.get.ensures.value ∙ none)) c.later-time.result
     (c.later-time.ensures ∙ ap (λ t. max t c.args.now) asked.given.ready.stands.time)
     c.locked_body-after.result c.in-Ok.shut c.locked_body-after.ensures

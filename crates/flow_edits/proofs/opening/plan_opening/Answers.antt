@@ -6,7 +6,7 @@ use Rattle.grants.specs.Plans.{HasPlan}
 use Rattle.grants.specs.Standing.{IsSame}
 use Rattle.grants.specs.declared.part.TreePart.{TreePart}
 use Rattle.grants.specs.declared.plan.Plan.{Plan}
-use Rattle.grants.proofs.StandingLemmas.{same_ready}
+use Rattle.grants.proofs.StandingLemmas.{same_ready, same_pairs}
 use Rattle.flow_edits.proofs.OpenPlans.{open_refused, open_planned}
 use Rattle.flow_edits.proofs.opening.plan_opening.Goals as goal
 
@@ -20,15 +20,7 @@ pub returns-clause-plan : goal.returns-clause-plan
 returns-clause-plan c = λ world desk asked.
     let kept = c.args.part.now in
     let room : TreePart = record kept { desk_pairs = c.reserve.new.self } in
-    let same : IsSame kept room = record {
-      pages = refl;
-      revisions = refl;
-      lists = record { users = refl; groups = refl; members = refl; grants = refl };
-      desks = c.reserve.ensures.pairs;
-      time = refl;
-      next_page = refl;
-      next_revision = refl;
-    } in
+    let same : IsSame kept room = same_pairs kept c.reserve.new.self c.reserve.ensures.pairs in
     let told = c.in-Ok.ensures world desk asked in
     subst (λ (plan : Plan). HasPlan room world desk c.args.now c.args.caller
     (commands.OpenDesk c.args.page) plan) (sym c.opening_of.ensures)

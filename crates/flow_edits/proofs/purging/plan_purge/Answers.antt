@@ -1,23 +1,24 @@
 -- The page is there; whether any revision goes.
 use Rattle.std.proofs.Common.{length, max, sym, ap, ◌∙◌}
-use Rattle.flow_edits.proofs.Facts.{purge_names, not_missing}
+use Rattle.flow_edits.proofs.Facts.{purge_names}
 use Rattle.flat_model.specs.declared.change.Purge.{Purge}
 use Rattle.flow_edits.specs.Plans.{taken}
 use Rattle.flow_edits.proofs.PurgePlans.{purge_idle, purge_told}
 use Rattle.flow_edits.proofs.purging.plan_purge.Goals as goal
 
-pub unreachable-requires : goal.unreachable-requires
-unreachable-requires c =
+pub kept_of-body-requires : goal.kept_of-body-requires
+kept_of-body-requires c =
     let world = c.requires.0 in
-    let asked = c.requires.3 in
-    not_missing c.args.page world.tree
-    (purge_names world c.requires.2 c.args.page asked.front).there
-    (sym c.in_default.is ∙ c.body_of.ensures world.tree asked.given.ready.stands.pages)
+    let asked = c.requires.3 in (
+      world,
+      asked.given.ready.stands,
+      (purge_names world c.requires.2 c.args.page asked.front).there,
+    )
 
 pub returns-then-count-eq0 : goal.returns-then-count-eq0
 returns-then-count-eq0 c = λ world desk caller asked.
-    purge_idle c.args.part.now world desk c.args.now caller c.args.page asked c.in-Some.body
-    (sym (c.body_of.ensures world.tree asked.given.ready.stands.pages) ∙ c.in-Some.is)
+    purge_idle c.args.part.now world desk c.args.now caller c.args.page asked c.kept_of-body.result
+    (c.kept_of-body.ensures world asked.given.ready.stands)
     c.taken_by-count.result
     (c.taken_by-count.ensures
     ∙ ap (λ (purge : Purge). length (taken purge c.args.part.now.shelf.revisions))
@@ -25,8 +26,8 @@ returns-then-count-eq0 c = λ world desk caller asked.
 
 pub returns : goal.returns
 returns c = λ world desk caller asked.
-    purge_told c.args.part.now world desk c.args.now caller c.args.page asked c.in-Some.body
-    (sym (c.body_of.ensures world.tree asked.given.ready.stands.pages) ∙ c.in-Some.is)
+    purge_told c.args.part.now world desk c.args.now caller c.args.page asked c.kept_of-body.result
+    (c.kept_of-body.ensures world asked.given.ready.stands)
     c.taken_by-count.result
     (c.taken_by-count.ensures
     ∙ ap (λ (purge : Purge). length (taken purge c.args.part.now.shelf.revisions))

@@ -6,6 +6,7 @@ use Rattle.site_model.specs.World.{TreePart}
 use Rattle.site_model.specs.Sound.{KeysRise}
 use Rattle.site_model.specs.Users.{member_key, is_membership, members_after}
 use Rattle.flat_model.specs.People.{members_with}
+use Rattle.grants.proofs.StandingLemmas.{same_grants}
 use Rattle.grants.proofs.FrontLemmas.{no_moderation}
 use Rattle.lost_desks.proofs.BackLemmas.{member_back, member_gone}
 use Rattle.lost_desks.proofs.leaving.lost_by_leaving.Goals as goal
@@ -16,26 +17,18 @@ returns-clause-same c =
     let ready = c.requires.ready.1 in
     let rise = subst (λ (members : List Member). KeysRise member_key members)
     (sym ready.stands.lists.members) ready.reached.sound.people.members_rise in
-    record {
-      pages = refl;
-      revisions = refl;
-      lists = record {
-        users = c.set_member-2.ensures.users ∙ (c.set_member.ensures.users ∙ kept.users);
-        groups = c.set_member-2.ensures.groups ∙ (c.set_member.ensures.groups ∙ kept.groups);
-        members = c.set_member-2.ensures.members
-            ∙ (ap (λ (members : List Member). members_with members c.args.user c.args.group true)
-            (c.set_member.ensures.members
-            ∙ ap (λ (members : List Member). members_with members c.args.user c.args.group false)
-            kept.members)
-            ∙ member_back c.args.part.now.grants.members c.args.user c.args.group rise
-            c.requires.member);
-        grants = c.set_member-2.ensures.grants ∙ (c.set_member.ensures.grants ∙ kept.grants);
-      };
-      desks = refl;
-      time = refl;
-      next_page = refl;
-      next_revision = refl;
-    }
+    same_grants c.args.part.now c.set_member-2.new.self (record {
+      users = c.set_member-2.ensures.users ∙ (c.set_member.ensures.users ∙ kept.users);
+      groups = c.set_member-2.ensures.groups ∙ (c.set_member.ensures.groups ∙ kept.groups);
+      members = c.set_member-2.ensures.members
+          ∙ (ap (λ (members : List Member). members_with members c.args.user c.args.group true)
+          (c.set_member.ensures.members
+          ∙ ap (λ (members : List Member). members_with members c.args.user c.args.group false)
+          kept.members)
+          ∙ member_back c.args.part.now.grants.members c.args.user c.args.group rise
+          c.requires.member);
+      grants = c.set_member-2.ensures.grants ∙ (c.set_member.ensures.grants ∙ kept.grants);
+    })
 
 pub returns-clause-lost : goal.returns-clause-lost
 returns-clause-lost c world now ready =

@@ -6,6 +6,7 @@ use Rattle.site_model.specs.World.{TreePart}
 use Rattle.site_model.specs.Sound.{KeysRise}
 use Rattle.site_model.specs.Users.{grant_key, is_grant, grants_after}
 use Rattle.flat_model.specs.People.{grants_with}
+use Rattle.grants.proofs.StandingLemmas.{same_grants}
 use Rattle.grants.proofs.FrontLemmas.{no_moderation}
 use Rattle.lost_desks.proofs.BackLemmas.{grant_back, grant_gone}
 use Rattle.lost_desks.proofs.withdrawal.lost_by_withdrawal.Goals as goal
@@ -16,27 +17,19 @@ returns-clause-same c =
     let ready = c.requires.ready.1 in
     let rise = subst (λ (grants : List Grant). KeysRise grant_key grants)
     (sym ready.stands.lists.grants) ready.reached.sound.grants.grants_rise in
-    record {
-      pages = refl;
-      revisions = refl;
-      lists = record {
-        users = c.set_grant-2.ensures.users ∙ (c.set_grant.ensures.users ∙ kept.users);
-        groups = c.set_grant-2.ensures.groups ∙ (c.set_grant.ensures.groups ∙ kept.groups);
-        members = c.set_grant-2.ensures.members ∙ (c.set_grant.ensures.members ∙ kept.members);
-        grants = c.set_grant-2.ensures.grants
-            ∙ (ap (λ (grants : List Grant).
-            grants_with grants c.args.group c.args.page c.args.permission true)
-            (c.set_grant.ensures.grants
-            ∙ ap (λ (grants : List Grant).
-            grants_with grants c.args.group c.args.page c.args.permission false) kept.grants)
-            ∙ grant_back c.args.part.now.grants.grants c.args.group c.args.page c.args.permission rise
-            c.requires.granted);
-      };
-      desks = refl;
-      time = refl;
-      next_page = refl;
-      next_revision = refl;
-    }
+    same_grants c.args.part.now c.set_grant-2.new.self (record {
+      users = c.set_grant-2.ensures.users ∙ (c.set_grant.ensures.users ∙ kept.users);
+      groups = c.set_grant-2.ensures.groups ∙ (c.set_grant.ensures.groups ∙ kept.groups);
+      members = c.set_grant-2.ensures.members ∙ (c.set_grant.ensures.members ∙ kept.members);
+      grants = c.set_grant-2.ensures.grants
+          ∙ (ap (λ (grants : List Grant).
+          grants_with grants c.args.group c.args.page c.args.permission true)
+          (c.set_grant.ensures.grants
+          ∙ ap (λ (grants : List Grant).
+          grants_with grants c.args.group c.args.page c.args.permission false) kept.grants)
+          ∙ grant_back c.args.part.now.grants.grants c.args.group c.args.page c.args.permission rise
+          c.requires.granted);
+    })
 
 pub returns-clause-lost : goal.returns-clause-lost
 returns-clause-lost c world now ready =

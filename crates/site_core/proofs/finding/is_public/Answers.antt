@@ -1,14 +1,15 @@
 -- A page's row tells whether it is live.
 use Rattle.std.proofs.Common.{sym, ap, ◌∙◌, option_copied}
-use Rattle.site_core.proofs.FindLemmas.{public_told, public_absent}
+use Rattle.site_model.specs.Views.{is_public}
+use Rattle.site_core.proofs.FindLemmas.{kept_told, kept_absent}
 use Rattle.site_core.proofs.finding.is_public.Goals as goal
 
 pub returns-in-None : goal.returns-in-None
 returns-in-None c = λ tree is.
-    public_absent c.args.page tree c.args.rows.now.pages is
-    (sym (ap option_copied c.in-None.is) ∙ c.row.ensures)
+    sym (ap is_public (kept_absent c.args.page tree c.args.rows.now.pages is
+    (sym (ap option_copied c.in-None.is) ∙ c.row.ensures)))
 
 pub returns-in-Some : goal.returns-in-Some
 returns-in-Some c = λ tree is.
-    public_told c.args.page tree c.args.rows.now.pages is c.in-Some.row.now
-    (sym (ap option_copied c.in-Some.is) ∙ c.row.ensures)
+    sym (ap is_public (kept_told c.args.page tree c.args.rows.now.pages is c.in-Some.row.now
+    (sym (ap option_copied c.in-Some.is) ∙ c.row.ensures)))

@@ -1,44 +1,31 @@
--- Each command is prepared with its group.
-use Rattle.std.proofs.Common.{sym, ◌∙◌}
-use Rattle.site_core.proofs.GroupLemmas.{tree_grouped, flow_grouped, save_grouped}
+-- A plan is found, and then room is made for what is found fast.
+use Rattle.std.proofs.Common.{subst}
+use Rattle.std.specs.Option.{option_copied}
+use Rattle.site_ids.specs.Moment.{IsMoment}
+use Rattle.grants.proofs.StandingLemmas.{same_both}
+use Rattle.site_core.proofs.RoomLemmas.{room_same, plan_with_room, plan_stays}
 use Rattle.site_core.proofs.part.prepare.Goals as goal
 
-pub prepare_tree-requires-clause-tree : goal.prepare_tree-requires-clause-tree
-prepare_tree-requires-clause-tree c =
-    tree_grouped c.args.command.now (sym c.group_of.ensures ∙ c.in-Tree.is)
+pub returns-in-Ok-make_room-clause-same : goal.returns-in-Ok-make_room-clause-same
+returns-in-Ok-make_room-clause-same c =
+    same_both c.args.part.now c.find_plan.new.part c.make_room.new.part c.find_plan.ensures.same
+    (room_same c.find_plan.new.part c.make_room.new.part c.make_room.ensures.room)
 
-pub prepare_flow-requires-clause-flow : goal.prepare_flow-requires-clause-flow
-prepare_flow-requires-clause-flow c =
-    flow_grouped c.args.command.now (sym c.group_of.ensures ∙ c.in-Flow.is)
+pub returns-in-Err-make_room-clause-same : goal.returns-in-Err-make_room-clause-same
+returns-in-Err-make_room-clause-same c =
+    same_both c.args.part.now c.find_plan.new.part c.make_room.new.part c.find_plan.ensures.same
+    (room_same c.find_plan.new.part c.make_room.new.part c.make_room.ensures.room)
 
-pub prepare_tree-requires-clause-ready : goal.prepare_tree-requires-clause-ready
-prepare_tree-requires-clause-ready c =
-    (c.requires.ready.0, c.requires.ready.1, c.requires.ready.2)
+pub returns-in-Ok-make_room-clause-plan : goal.returns-in-Ok-make_room-clause-plan
+returns-in-Ok-make_room-clause-plan c = λ world ready fits own.
+    plan_with_room world (option_copied c.args.desk) c.args.now c.args.caller c.args.command.now
+    c.in-Ok.plan c.find_plan.new.part c.make_room.new.part c.make_room.ensures.room
+    (c.in-Ok.ensures.plan world ready fits own)
 
-pub prepare_flow-requires-clause-given : goal.prepare_flow-requires-clause-given
-prepare_flow-requires-clause-given c = (
-  c.requires.ready.0,
-  record {
-    ready = c.requires.ready.1;
-    fits = c.requires.ready.2;
-    at_desk = c.requires.ready.3;
-  },
-)
-
-pub refuse-requires-clause-ready : goal.refuse-requires-clause-ready
-refuse-requires-clause-ready c = (c.requires.ready.0, c.requires.ready.1)
-
-pub unreachable-requires : goal.unreachable-requires
-unreachable-requires c =
-    save_grouped c.args.command.now (sym c.group_of.ensures ∙ c.in-Save.is) c.requires.other
-
-pub returns-in-Tree-clause-plan : goal.returns-in-Tree-clause-plan
-returns-in-Tree-clause-plan c = λ world ready fits own.
-    c.prepare_tree.ensures.plan world _ ready fits
-
-pub returns-in-Later-clause-plan : goal.returns-in-Later-clause-plan
-returns-in-Later-clause-plan c = λ world ready fits own. c.refuse.ensures world _ c.args.now ready
-
-pub returns-in-Flow-clause-plan : goal.returns-in-Flow-clause-plan
-returns-in-Flow-clause-plan c = λ world ready fits own.
-    c.prepare_flow.ensures.plan world (record { ready = ready; fits = fits; at_desk = own })
+pub returns-in-Ok-make_room-clause-in_step : goal.returns-in-Ok-make_room-clause-in_step
+returns-in-Ok-make_room-clause-in_step c = λ world ready fits own.
+    plan_stays world (option_copied c.args.desk) c.args.now c.args.caller c.args.command.now
+    c.in-Ok.plan c.args.part.now c.find_plan.new.part c.make_room.new.part ready
+    (subst IsMoment c.get-seconds.ensures.value c.get-seconds.ensures.range) fits own
+    c.len-len.ensures.pages
+    (c.in-Ok.ensures.plan world ready fits own) c.in-Ok-make_room.ensures.ok

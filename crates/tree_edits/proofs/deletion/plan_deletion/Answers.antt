@@ -1,26 +1,77 @@
--- The pages that go are listed, and they are no more than there are ids; so are the desks that end.
-use Rattle.std.proofs.Common.{◌≡◌, length, ap, arith}
+-- The aliases that are left are found, the pages that go are listed, and so are the desks that end;
+-- and room is made.
+use Rattle.std.proofs.Common.{◌≡◌, ◌≤◌, length, refl, ap, subst, arith}
 use Rattle.page_tree.specs.Tree.{node_of, ids_of}
 use Rattle.flat_model.specs.declared.change.Change.{Change}
+use Rattle.site_model.specs.World as worlds
+use Rattle.site_model.specs.Delete.{aliases_left, delete_rules}
 use Rattle.site_types.specs.declared.command.Command.TheVariants.{Delete}
-use Rattle.tree_edits.proofs.AskedLemmas.{ending_is}
+use Rattle.tree_edits.specs.Leaving.{AreDetached}
+use Rattle.tree_edits.proofs.AskedLemmas.{own_refused, ending_is}
+use Rattle.tree_edits.proofs.CommandLemmas.{delete_own}
 use Rattle.tree_edits.proofs.DeletionLemmas.{count_fits, deletion_planned}
+use Rattle.tree_edits.proofs.LeavingRules.{left_count, left_fit}
 use Rattle.tree_edits.proofs.deletion.plan_deletion.Goals as goal
 
 pub overflow_cast-reply : goal.overflow_cast-reply
 overflow_cast-reply c =
-    let ready = c.requires.2.ready in
-    let ids = c.in-Ok.ensures c.requires.0.tree ready.stands.pages in
+    let ready = c.requires.1.ready in
+    let ids = c.in-Ok-plan_delete.ensures c.requires.0.tree ready.stands.pages in
     let most = count_fits c.requires.0 c.args.page ready.reached.sound.pages in
-    let same : length c.in-Ok.gone ≡ length (ids_of (node_of c.args.page c.requires.0.tree)) =
-    ap length ids in
+    let same : length c.in-Ok-plan_delete.gone
+    ≡ length (ids_of (node_of c.args.page c.requires.0.tree)) = ap length ids in
     let long = c.len.ensures in
     omega (arith, most, same, long)
 
-pub returns : goal.returns
-returns c = λ world desk caller asked.
-    ending_is (Delete c.args.page) _ world desk c.args.now caller _ _ _ _ _ c.quiet-plan.ensures
-    (ap (λ (change : Change). record change { gone = c.in-Ok.gone }) c.of_tree-change.ensures)
-    (deletion_planned c.args.part.now world desk c.args.now caller c.args.page _ _ _ _ asked
-    (c.in-Ok.ensures world.tree asked.ready.stands.pages) (c.in-Ok-lost_by_deletion.ensures world
-    asked.ready) c.len.ensures c.later.ensures.value)
+pub returns-in-Err-clause-plan : goal.returns-in-Err-clause-plan
+returns-in-Err-clause-plan c = λ world desk asked.
+    own_refused c.args.part.now c.args.part.now world desk c.args.now c.args.caller
+    (Delete c.args.page) asked refl (delete_rules world c.args.now c.args.caller c.args.page)
+    (delete_own world desk c.args.now c.args.caller c.args.page)
+    (AreDetached world (worlds.time_at world c.args.now) c.args.caller
+    (aliases_left world c.args.page)) c.in-Err.fault (c.in-Err.ensures world asked)
+
+pub overflow_cast-next_revision : goal.overflow_cast-next_revision
+overflow_cast-next_revision c =
+    let world = c.requires.0 in
+    let asked = c.requires.1 in
+    let told = c.in-Ok.ensures world asked in
+    let fits = left_fit world c.args.now c.args.caller c.args.page c.in-Ok.left
+    asked.ready.reached.sound told.0 told.1 in
+    let long = c.len.ensures in
+    omega (arith, fits, long)
+
+pub overflow_add-next_revision : goal.overflow_add-next_revision
+overflow_add-next_revision c =
+    let world = c.requires.0 in
+    let asked = c.requires.1 in
+    let told = c.in-Ok.ensures world asked in
+    let fits = left_fit world c.args.now c.args.caller c.args.page c.in-Ok.left
+    asked.ready.reached.sound told.0 told.1 in
+    let long = c.len.ensures in
+    let number = asked.ready.stands.next_revision in
+    omega (arith, fits, long, number)
+
+pub returns-clause-plan : goal.returns-clause-plan
+returns-clause-plan c = λ world desk asked.
+    let told = c.in-Ok.ensures world asked in
+    let left = c.in-Ok.left in
+    let count = left_count world (worlds.time_at world c.args.now) c.args.caller
+    (aliases_left world c.args.page) left told.1 in
+    let long = c.len.ensures in
+    let number = asked.ready.stands.next_revision in
+    ending_is (Delete c.args.page) c.make_room.new.part world desk c.args.now c.args.caller _ _ _ _ _
+    c.quiet-plan.ensures
+    (ap (λ (change : Change). record change {
+      gone = c.in-Ok-plan_delete.gone;
+      bodies = left.bodies;
+      revisions = left.revisions;
+    }) c.of_tree-change.ensures)
+    (deletion_planned c.args.part.now c.make_room.new.part world desk c.args.now c.args.caller
+    c.args.page _ c.in-Ok-plan_delete.gone c.in-Ok-lost_by_deletion.shut left _ _ _ asked
+    c.make_room.ensures.same
+    (subst (λ n. n ≤ c.make_room.new.part.shelf.spare) c.len-2.ensures
+    c.in-Ok-make_room.ensures.revisions) told.0 told.1
+    (c.in-Ok-plan_delete.ensures world.tree asked.ready.stands.pages)
+    (c.in-Ok-lost_by_deletion.ensures world asked.ready) c.len-3.ensures
+    c.later-time.ensures.value refl (omega (arith, count, long, number)))

@@ -48,6 +48,7 @@ returns-clause-plan c = λ world desk caller asked.
       time = refl;
       next_page = refl;
       next_revision = refl;
+      indexes = record { expiries = refl; go_lives = refl; aliases = refl };
     }) c.in-Ok-reserve.ensures.ok (c.in-Ok-shut_there.ensures world asked.ready)
     c.in-Ok-told_page.ensures c.later.ensures.value)
 

@@ -22,8 +22,8 @@ returns-in-Move-clause-plan c = λ world desk asked.
 pub returns-in-Delete-clause-plan : goal.returns-in-Delete-clause-plan
 returns-in-Delete-clause-plan c = λ world desk asked.
     subst (λ (command : Command). Prepares world desk c.args.now c.args.caller command
-    c.args.part.now c.plan_deletion.result) (sym c.in-Delete.is)
-    (c.plan_deletion.ensures world desk c.args.caller
+    c.plan_deletion.new.part c.plan_deletion.result) (sym c.in-Delete.is)
+    (c.plan_deletion.ensures.plan world desk
     (subst (IsAsked c.args.part.now world c.args.caller) c.in-Delete.is asked))
 
 pub returns-in-SetSlug-clause-plan : goal.returns-in-SetSlug-clause-plan
@@ -32,3 +32,17 @@ returns-in-SetSlug-clause-plan c = λ world desk asked.
     c.plan_renaming.new.part c.plan_renaming.result) (sym c.in-SetSlug.is)
     (c.plan_renaming.ensures.plan world desk c.args.caller
     (subst (IsAsked c.args.part.now world c.args.caller) c.in-SetSlug.is asked))
+
+pub returns-in-Alias-clause-plan : goal.returns-in-Alias-clause-plan
+returns-in-Alias-clause-plan c = λ world desk asked.
+    subst (λ (command : Command). Prepares world desk c.args.now c.args.caller command
+    c.plan_aliasing.new.part c.plan_aliasing.result) (sym c.in-Alias.is)
+    (c.plan_aliasing.ensures.plan world desk
+    (subst (IsAsked c.args.part.now world c.args.caller) c.in-Alias.is asked))
+
+pub returns-in-Detach-clause-plan : goal.returns-in-Detach-clause-plan
+returns-in-Detach-clause-plan c = λ world desk asked.
+    subst (λ (command : Command). Prepares world desk c.args.now c.args.caller command
+    c.plan_detaching.new.part c.plan_detaching.result) (sym c.in-Detach.is)
+    (c.plan_detaching.ensures.plan world desk
+    (subst (IsAsked c.args.part.now world c.args.caller) c.in-Detach.is asked))

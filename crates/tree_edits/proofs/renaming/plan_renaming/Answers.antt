@@ -44,5 +44,6 @@ returns-clause-plan c = λ world desk caller asked.
       time = refl;
       next_page = refl;
       next_revision = refl;
+      indexes = record { expiries = refl; go_lives = refl; aliases = refl };
     }) c.in-Ok-reserve.ensures.ok c.in-Ok-told_page.ensures
     (c.from_vec-none.ensures ∙ c.new.ensures.items) c.copy-slug.ensures c.later.ensures.value)

@@ -1,14 +1,17 @@
 -- A new row put into each of the three that the store keeps.
-use Rattle.std.proofs.Common.{◌≡◌, ℕ, List, Some, false, cond, sym, subst}
-use Rattle.page_tree.specs.Rows.{comes_before, with_row}
+use Rattle.std.proofs.Common.{◌≡◌, ◌∙◌, ℕ, nat_eq, List, Option, Some, None, false, ap, sym, subst}
+use Rattle.page_tree.specs.Rows.{comes_before, with_row, row_with}
 use Rattle.step_path.specs.Path.{steps_of}
 use Rattle.std.specs.Map.{lookup}
 use Rattle.site_types.specs.Ids.{IsPageId}
-use Rattle.page_store.specs.declared.stored.KidKey.{KidKey}
+use Rattle.page_store.specs.declared.kid_index.KidIndex.{KidIndex}
+use Rattle.page_store.specs.declared.kid_index.KidKey.{KidKey}
 use Rattle.page_store.specs.declared.stored.StoredRow.{StoredRow}
 use Rattle.page_store.specs.PageRows.{RowList, seen_row, parent_id, IsNewRow}
 use Rattle.page_store.specs.Pages.{Page}
-use Rattle.page_store.specs.Kept.{kid_key, key_eq, rows_seen, IsKept}
+use Rattle.page_store.specs.Kept.{seen, rows_seen, IsKept}
+use Rattle.page_store.specs.KidIndex.{kid_key, own_key, keys_of, with_key, IsIndex}
+use Rattle.page_store.proofs.AddLemmas.{none_from_map}
 use Rattle.page_store.specs.Search.{leading}
 use Rattle.page_store.proofs.SeenLemmas.{few_kids, rows_seen-kept}
 use Rattle.page_store.proofs.KeptLemmas.{insert_kept}
@@ -25,18 +28,21 @@ place_by_path : (text path : List ℕ) (value seen : RowList) (n : ℕ) → text
     n ≡ leading (λ row. comes_before row.path (steps_of path)) seen.pages
 place_by_path text path value seen n same is h = rw (is, ← same) h
 
--- the kids by the slug itself
-names_by_slug : (kids more_kids : List (KidKey × ℕ)) (p : ℕ) (copy slug : List ℕ) (id : ℕ) →
-    copy ≡ slug → ((key : KidKey) →
-    lookup (key_eq key) more_kids ≡ cond (key_eq (kid_key p copy) key) (Some id) (lookup (key_eq
-    key) kids)) → (key : KidKey) →
-    lookup (key_eq key) more_kids ≡ cond (key_eq (kid_key p slug) key) (Some id) (lookup (key_eq
-    key) kids)
-names_by_slug kids more_kids p copy slug id same h key = rw (← same) (h key)
+-- the index with the new page, by the key of its slug
+index_then : (stored : List (ℕ × StoredRow)) (order : List ℕ) (kids more : KidIndex) (pages : List
+    Page) (id p : ℕ) (slug : List ℕ) (key : KidKey) → IsKept stored order kids pages →
+    row_with id pages ≡ None → key ≡ kid_key p slug →
+    ((keys : ℕ → Option KidKey) → IsIndex kids keys → keys id ≡ None →
+    IsIndex more (with_key id key keys)) →
+    IsIndex more (with_key id (kid_key p slug) (keys_of stored))
+index_then stored order kids more pages id p slug key kept new is adds =
+    subst (λ (k : KidKey). IsIndex more (with_key id k (keys_of stored))) is (adds (keys_of stored)
+    kept.indexed (ap own_key (none_from_map seen (lookup (nat_eq id) stored) (sym (kept.found id) ∙
+    new))))
 
 -- what the store keeps then stands for all rows
 kept_then : (c : goal.After-put_at) →
-    IsKept c.put.new.map.entries c.put_at.new.order.items c.put-2.new.map.entries (with_row
+    IsKept c.put.new.map.entries c.put_at.new.order.items c.add.new.self (with_row
     (seen_row c.args.row (Some c.parent_of-parent.result) c.args.url) (rows_seen
     c.self.inside.stored.entries c.self.inside.order.items))
 kept_then c =
@@ -48,11 +54,11 @@ kept_then c =
     let place = place_by_path _ c.args.row.path _ _ _ c.as_slice-2.ensures.value c.self.view_is
     c.place_of-place.ensures.place in
     let fits = subst IsPageId c.get-number.ensures.value c.get-number.ensures.range in
-    let names = names_by_slug _ _ p c.copy.result c.args.row.slug c.args.row.id c.copy.ensures
-    c.put-2.ensures.updates.0 in
+    let index = index_then _ _ c.self.inside.kids c.add.new.self _ c.args.row.id p c.args.row.slug _
+    c.self.invariant is.new_id c.key_of_kid-key.ensures c.add.ensures.added in
     rw (c.put_at.ensures.items, place)
-    (insert_kept _ _ _ _ _ _ _ new p c.self.invariant is found (λ i. Some p) fits (λ i. false)
-    c.add_kid.ensures.others c.put.ensures.updates.0 names)
+    (insert_kept _ _ _ _ c.self.inside.kids c.add.new.self _ new p c.self.invariant is found (λ i. Some
+    p) fits (λ i. false) c.add_kid.ensures.others c.put.ensures.updates.0 index)
 
 pub add_kid-requires : goal.add_kid-requires
 add_kid-requires c = few_kids _ _ _ _ c.self.invariant c.parent_of-parent.result
@@ -61,7 +67,7 @@ pub invariant_of-self : goal.invariant_of-self
 invariant_of-self c =
     let kept = kept_then c in
     subst (λ (rows : List Page). IsKept c.put.new.map.entries c.put_at.new.order.items
-    c.put-2.new.map.entries rows) (sym (rows_seen-kept _ _ _ _ kept)) kept
+    c.add.new.self rows) (sym (rows_seen-kept _ _ _ _ kept)) kept
 
 pub returns-clause-pages : goal.returns-clause-pages
 returns-clause-pages c =

@@ -20,18 +20,19 @@ first_id order later id none one h = h ∙ rw (none, one) refl
 
 -- what is kept stands for the rows of a new tree
 kept_root : (c : goal.After-new) →
-    IsKept c.insert.new.self.entries c.push.new.self.items c.new.result.entries root_rows
+    IsKept c.insert.new.self.entries c.push.new.self.items c.new.result root_rows
 kept_root c =
     let entries = first_entry _ _ _ c.in_ok-page.page c.new-stored.ensures.empty c.root.ensures
     c.in_ok-insert.ensures.entries in
     let items = first_id _ _ _ c.new-order.ensures.items c.root-2.ensures c.in_ok-push.ensures.items in
-    rw (entries, items, c.new.ensures.empty) (root_kept c.in_ok-page.page c.in_ok-page.ensures)
+    rw (entries, items) (root_kept c.in_ok-page.page c.new.result c.in_ok-page.ensures c.new.ensures.keys
+    c.new.ensures.clashes)
 
 pub invariant_of-result : goal.invariant_of-result
 invariant_of-result c =
     let kept = kept_root c in
     subst (λ (rows : List Page). IsKept c.insert.new.self.entries c.push.new.self.items
-    c.new.result.entries rows) (sym (rows_seen-kept _ _ _ _ kept)) kept
+    c.new.result rows) (sym (rows_seen-kept _ _ _ _ kept)) kept
 
 pub returns : goal.returns
 returns c = rows_seen-kept _ _ _ _ (kept_root c)

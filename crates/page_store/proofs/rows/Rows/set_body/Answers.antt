@@ -12,7 +12,7 @@ pub invariant_of-self : goal.invariant_of-self
 invariant_of-self c =
     let kept = body_kept _ _ _ _ _ c.args.id c.args.body c.self.invariant c.put_body.ensures.others in
     subst (λ (rows : List Page). IsKept c.put_body.new.stored.entries c.self.inside.order.items
-    c.self.inside.kids.entries rows) (sym (rows_seen-kept _ _ _ _ kept)) kept
+    c.self.inside.kids rows) (sym (rows_seen-kept _ _ _ _ kept)) kept
 
 pub returns-clause-pages : goal.returns-clause-pages
 returns-clause-pages c =

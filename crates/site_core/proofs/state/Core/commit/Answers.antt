@@ -4,6 +4,7 @@ use Rattle.std.specs.List.{AllByRecursion}
 use Rattle.site_ids.specs.Ids.{IsPageId}
 use Rattle.grants.specs.Plans.{PlanFits, left_by}
 use Rattle.grants.proofs.StandingLemmas.{stands_seen, seen_stands}
+use Rattle.part_commits.specs.InStep.{CanStayInStep}
 use Rattle.site_core.specs.Texts.{OpensWell, kept_on}
 use Rattle.site_core.proofs.PrepareLemmas.{left_told}
 use Rattle.site_core.proofs.state.Core.commit.Goals as goal
@@ -20,6 +21,15 @@ commit-reply-requires-clause-room c = c.requires.4.room
 pub commit-reply-requires-clause-pages : goal.commit-reply-requires-clause-pages
 commit-reply-requires-clause-pages c = c.requires.4.pages
 
+pub commit-reply-requires-clause-in_step : goal.commit-reply-requires-clause-in_step
+commit-reply-requires-clause-in_step c = c.requires.4.ready.stands.tree.in_step
+
+pub commit-reply-requires-clause-stays : goal.commit-reply-requires-clause-stays
+commit-reply-requires-clause-stays c =
+    subst (λ lists. CanStayInStep c.args.self.now.tree lists c.args.plan.change)
+    (sym (stands_seen c.args.self.now.tree c.requires.0.part c.requires.4.ready.stands.tree))
+    c.requires.4.in_step
+
 pub put_texts-requires-clause-opens : goal.put_texts-requires-clause-opens
 put_texts-requires-clause-opens c =
     subst (OpensWell c.args.self.now.desks) (sym c.commit-reply.ensures.told.opened)
@@ -35,7 +45,8 @@ returns-clause-stands c = λ world now caller command has. record {
       (c.commit-reply.ensures.made
       ∙ (ap (left_by c.args.plan)
       (stands_seen c.args.self.now.tree world.part has.ready.stands.tree)
-      ∙ has.leads));
+      ∙ has.leads))
+      c.commit-reply.ensures.in_step;
   desks = λ page.
       c.put_texts.ensures page
       ∙ (left_told c.args.plan c.commit-reply.result c.commit-reply.ensures.told page

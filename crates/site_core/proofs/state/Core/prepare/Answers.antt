@@ -35,5 +35,7 @@ returns-in_default-clause-plan c = λ world ready fits.
     (saves_none c.args.command.now c.in_default.not-SaveDesk)
     (record { tree = c.prepare_step.ensures.same; desks = c.prepare_step.ensures.lists })
     c.prepare_step.result c.prepare_step.ensures.room
+    (c.prepare_step.ensures.in_step world.part (part_ready c.args.self.now world ready) fits
+    (own_fits c.args.self.now world ready c.args.caller (desk_page c.args.command.now)))
     (c.prepare_step.ensures.plan world.part (part_ready c.args.self.now world ready) fits
     (own_fits c.args.self.now world ready c.args.caller (desk_page c.args.command.now)))

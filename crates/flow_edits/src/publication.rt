@@ -1,0 +1,117 @@
+//! Plans of publishing and unpublishing, and of emptying a schedule.
+ghost use Rattle.std.specs.Prelude.{◌≡◌, ◌||◌, ℕ, Option};
+ghost use Rattle.site_types.specs.Content.{ContentValue};
+ghost use Rattle.site_types.specs.declared.command.Command.TheVariants as commands;
+ghost use Rattle.site_model.specs.World as worlds;
+ghost use Rattle.site_model.specs.Publishing as model;
+ghost use Rattle.grants.specs.Plans.{Prepares};
+ghost use Rattle.flow_edits.specs.Asked.{IsAsked};
+
+use crate::telling::{body_plan, kept_of, later, latest_of, no_pages, same_revision};
+use grants::{Fault, Plan, TreePart};
+use publishing::{has_expired, published_body, unpublished_body, unscheduled_body, waits};
+use site_types::{Body, Moment, PageId, Refusal, Reply, Revision};
+use std::alloc::Global;
+
+/// The plan of publishing the latest revision of a page, which its caller may do.
+///
+/// It costs a few look-ups.
+pub(crate) fn plan_publish(
+    alloc: Global,
+    part: &TreePart,
+    page: PageId,
+    now: Moment,
+) -> Result<Plan, Fault>
+    requires { (world : worlds.TreePart) × (desk : Option ContentValue) × (caller : ℕ)
+        × IsAsked part.now world desk caller (commands.Publish page) }
+    ensures { (world : worlds.TreePart) (desk : Option ContentValue) (caller : ℕ)
+        → IsAsked part.now world desk caller (commands.Publish page)
+        → Prepares world desk now caller (commands.Publish page) part.now result }
+{
+    let body = kept_of(part, page);
+    let Some(revision) = latest_of(part, page) else {
+        unreachable!();
+    };
+    let time = later(part.time, now);
+    if is_out(time, revision, &body) {
+        return Err(Fault::Refused(Refusal::NothingNew));
+    }
+    if is_late(time, revision) {
+        return Err(Fault::Refused(Refusal::AlreadyExpired));
+    }
+    let reply = Reply::Published {
+        scheduled: waits(revision, time),
+    };
+    let after = published_body(revision, &body, time);
+    body_plan(alloc, part, page, after, time, reply, no_pages(alloc))
+}
+
+/// The plan of unpublishing a page, which its caller may do. One look-up.
+pub(crate) fn plan_unpublish(
+    alloc: Global,
+    part: &TreePart,
+    page: PageId,
+    now: Moment,
+) -> Result<Plan, Fault>
+    requires { (world : worlds.TreePart) × (desk : Option ContentValue) × (caller : ℕ)
+        × IsAsked part.now world desk caller (commands.Unpublish page) }
+    ensures { (world : worlds.TreePart) (desk : Option ContentValue) (caller : ℕ)
+        → IsAsked part.now world desk caller (commands.Unpublish page)
+        → Prepares world desk now caller (commands.Unpublish page) part.now result }
+{
+    let body = kept_of(part, page);
+    if !body.live {
+        return Err(Fault::Refused(Refusal::NotLive));
+    }
+    let after = unpublished_body(&body);
+    let time = later(part.time, now);
+    body_plan(alloc, part, page, after, time, Reply::Done, no_pages(alloc))
+}
+
+/// The plan of emptying the schedule of a page, which its caller may do. One look-up.
+pub(crate) fn plan_unschedule(
+    alloc: Global,
+    part: &TreePart,
+    page: PageId,
+    now: Moment,
+) -> Result<Plan, Fault>
+    requires { (world : worlds.TreePart) × (desk : Option ContentValue) × (caller : ℕ)
+        × IsAsked part.now world desk caller (commands.Unschedule page) }
+    ensures { (world : worlds.TreePart) (desk : Option ContentValue) (caller : ℕ)
+        → IsAsked part.now world desk caller (commands.Unschedule page)
+        → Prepares world desk now caller (commands.Unschedule page) part.now result }
+{
+    let body = kept_of(part, page);
+    if body.scheduled.is_none() {
+        return Err(Fault::Refused(Refusal::NothingNew));
+    }
+    let after = unscheduled_body(&body);
+    let time = later(part.time, now);
+    body_plan(alloc, part, page, after, time, Reply::Done, no_pages(alloc))
+}
+
+/// Whether to publish this latest revision changes nothing: the page is live and shows it, or it is
+/// scheduled and waits for its go-live.
+fn is_out(time: Moment, revision: &Revision, body: &Body) -> bool
+    ensures { result ≡ model.is_out time revision.now body.now }
+{
+    (body.live && same_revision(body.shown, body.latest))
+        || (same_revision(body.scheduled, body.latest) && waits(revision, time))
+}
+
+/// Whether a revision has expired, or would expire before it goes live.
+fn is_late(time: Moment, revision: &Revision) -> bool
+    ensures { result ≡ (model.has_expired time revision.now || model.expires_first revision.now) }
+{
+    has_expired(revision, time) || expires_first(revision)
+}
+
+/// Whether a revision would expire before it goes live, or as it does.
+fn expires_first(revision: &Revision) -> bool
+    ensures { result ≡ model.expires_first revision.now }
+{
+    match revision.go_live {
+        Some(go_live) => has_expired(revision, go_live),
+        None => false,
+    }
+}

@@ -1,0 +1,9 @@
+pub mod FindLemmas
+pub mod FitLemmas
+pub mod GatheredLemmas
+pub mod LayerLemmas
+pub mod ModelLemmas
+pub mod RefLemmas
+pub mod RefLaws
+pub mod TellLemmas
+pub mod ThoseLemmas

@@ -1,0 +1,15 @@
+-- What is left tells of what is told so far what all tell.
+use Rattle.std.proofs.Common.{◌≡◌, ℕ, Bool, drop}
+use Rattle.link_plans.specs.Layers.{aliases_told}
+use Rattle.link_plans.specs.Told.{finds_told, links_told}
+use Rattle.link_plans.proofs.gathered.add_aliases.Given as goal
+
+abbrev pub invariant-loop-fate : goal.invariant-loop-fate
+invariant-loop-fate l =
+    (page linked : ℕ) (was : Bool) →
+    let finds = finds_told l.edit.rows.now.pages l.edit.shelf.now.revisions l.edit.new.now
+    l.edit.fates.now in
+    aliases_told finds l.aliases.pairs (drop l.fate-index l.edit.fates.now) page linked
+    (links_told l.planned.items page linked was)
+    ≡ aliases_told finds l.aliases.pairs l.edit.fates.now page linked
+    (links_told l.initial.planned.items page linked was)

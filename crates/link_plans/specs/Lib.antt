@@ -1,0 +1,5 @@
+pub mod PageLinks
+pub mod Told
+pub mod Layers
+pub mod Laws
+pub mod Found

@@ -1,0 +1,6 @@
+pub mod ShownLemmas
+pub mod RowPlaces
+pub mod ComingPairs
+pub mod ComingRows
+pub mod GraftedRows
+pub mod CopyLemmas

@@ -1,0 +1,9 @@
+pub mod SlugRows
+pub mod DropLemmas
+pub mod PurgeLemmas
+pub mod MoveCall
+pub mod RowBodies
+pub mod LeavingLemmas
+pub mod AliasLemmas
+pub mod StayLemmas
+pub mod InStepLemmas

@@ -1,0 +1,4 @@
+pub mod Ending
+pub mod Purging
+pub mod InStep
+pub mod Laws

@@ -1,0 +1,37 @@
+-- The root alone is in step without moments and aliases, and no desk is open.
+use Rattle.std.proofs.Common.{refl, rules}
+use Rattle.grants.specs.Standing.{InStep}
+use Rattle.grants.specs.declared.part.TreePart.{TreePart}
+use Rattle.site_core.proofs.StartStep.{start_in_step}
+use Rattle.site_core.proofs.state.Core.new.Goals as goal
+
+pub returns : goal.returns
+returns c =
+    let part : TreePart = record {
+      rows = c.in_ok-rows.rows;
+      shelf = c.new-3.result;
+      grants = c.define_user.new.self;
+      desk_pairs = c.new-4.result;
+      time = c.in-Some.time;
+      next_page = 2;
+      next_revision = 1;
+      times = c.new-5.result;
+      aliases = c.new-6.result;
+    } in
+    let step : InStep part = start_in_step part c.in_ok-rows.ensures c.new-5.ensures.expiries
+    c.new-5.ensures.go_lives c.new-6.ensures.pairs in
+    record {
+      tree = record {
+        pages = search rules;
+        revisions = search rules;
+        lists = search rules;
+        no_tasks = refl;
+        no_workflows = refl;
+        desks = search rules;
+        time = search rules;
+        next_page = refl;
+        next_revision = refl;
+        in_step = step;
+      };
+      desks = search rules;
+    }

@@ -265,7 +265,7 @@ class Site:
         one.slug = slug
         return self.replied(one)
 
-    # -- aliases
+    # -- aliases and copies
 
     def make_regular(self, alias):
         """An alias becomes a regular page that shows what it showed, and is live as it was."""
@@ -299,6 +299,31 @@ class Site:
         self.seen.add(("detach", "a live alias" if one.is_live() else "an alias that is not live"))
         self.make_regular(one)
         return {}
+
+    def copy_one(self, page, above, slug, deep):
+        """A copy of a page with this slug, and of all below it if it is deep."""
+        copy = self.new_page(above, slug)
+        copy.shown = self.file_revision(copy, page.newest())
+        for kid in page.kids if deep else []:
+            self.copy_one(kid, copy, kid.slug, True).step = kid.step
+        return copy
+
+    def copy_post(self, page, parent, slug, deep):
+        """A page is copied, with all below it or alone."""
+        one, above = self.find(page), self.find(parent)
+        if one is self.root:
+            raise Refused(2, "IsRoot")
+        self.need(self.holds("add", above), "add")
+        if deep and above in one.all_below():
+            raise Refused(7, "IntoItself")
+        self.stop_taken(above, slug)
+        self.stop_deep(above, one.height() if deep else 1)
+        if above in one.all_below():
+            self.seen.add(("copy", "flat into itself"))
+        self.seen.add(("copy", "deep" if deep and one.kids else "flat"))
+        if any(below.source for below in (one.all_below() if deep else [one])):
+            self.seen.add(("copy", "an alias"))
+        return self.replied(self.copy_one(one, above, slug, deep))
 
     # -- commands on desks
 

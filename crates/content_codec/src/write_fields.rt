@@ -1,6 +1,6 @@
 //! Fields written as bytes: truth values, ids, moments, slugs and texts.
 
-ghost use Rattle.std.specs.Prelude.{◌≡◌, ◌≤◌, ◌++◌, length, OnOk, IsUtf8};
+ghost use Rattle.std.specs.Prelude.{◌≡◌, ◌≤◌, ◌++◌, length, replicate, OnOk, IsUtf8};
 ghost use Rattle.site_types.specs.Ids.{IsPageId, IsUserId, IsGroupId, IsWorkflowId};
 ghost use Rattle.site_types.specs.Moment.{IsMoment};
 ghost use Rattle.site_types.specs.Slug.{IsSlug};
@@ -62,15 +62,23 @@ impl Writer {
     }
 
     /// Writes a moment, or the greatest number of eight bytes for none.
-    #[tactic(auto, unfolding(byte_forms::specs::Fields::optional_moment_form, byte_forms::specs::Fields::u64_form))]
+    #[tactic(auto, unfolding(byte_forms::specs::Fields::optional_moment_form))]
     pub fn optional_moment(&mut self, moment: Option<Moment>) -> Result<(), NoMemory>
         ensures form { OnOk result (self.new ≡ self.old ++ optional_moment_form moment) }
         ensures range { IfThere IsMoment moment }
     {
         match moment {
-            Some(moment) => self.u64(moment.get()),
-            None => self.u64(u64::MAX),
+            Some(moment) => self.moment(moment),
+            None => self.greatest(),
         }
+    }
+
+    /// Writes the greatest number of eight bytes.
+    #[tactic(auto, unfolding(byte_forms::specs::Fields::u64_form))]
+    fn greatest(&mut self) -> Result<(), NoMemory>
+        ensures { OnOk result (self.new ≡ self.old ++ replicate 8 255) }
+    {
+        self.u64(u64::MAX)
     }
 
     /// Writes a slug that is not empty.

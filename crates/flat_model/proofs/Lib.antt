@@ -1,3 +1,4 @@
+pub mod KeptPages
 pub mod BodyRows
 pub mod ListLemmas
 pub mod MoveRows

@@ -21,6 +21,7 @@ use Rattle.site_model.specs.Views.{first_body, body_of, view_of}
 use Rattle.site_model.proofs.AcceptLemmas.{front_parts, page_found}
 use Rattle.site_model.proofs.ClearLemmas.{first_clear, test_clear}
 use Rattle.site_model.proofs.Deeds.{below_root}
+use Rattle.flat_model.proofs.KeptPages.{kept_there, own_found, page_has}
 
 -- A page that is there, and is not the root.
 pub record IsBelow (tree : Forest Body) (page : ℕ) : Type 0 where
@@ -103,53 +104,13 @@ module _ (part : worlds.TreePart) (caller page : ℕ) where
   purge_names =
       on_page_names StopsOthers true StopsNobody (needs_of part caller (commands.Purge page))
 
--- a page that is there is kept
-pub kept_there : (page : ℕ) (tree : Forest Body) → has_page page tree ≡ true →
-    (body : Body) × (body_of tree page ≡ Some body)
-kept_there page tree there =
-    let node = node_found page tree (has_counts page tree there) in
-    (node.body, ap (λ (f : Forest Body). first_body f) node.is)
-
--- so it is not missing
+-- a page that is there is not missing
 pub not_missing : (page : ℕ) (tree : Forest Body) → has_page page tree ≡ true →
     None ≡ body_of tree page → ⊥
 not_missing page tree there none =
     let kept = kept_there page tree there in
     let no : ◌≡◌ {A = Option Body} None (Some kept.0) = none ∙ kept.1 in
     cc
-
--- the same, found twice
-pub same_body : (one other : Body) → ◌≡◌ {A = Option Body} (Some one) (Some other) → one ≡ other
-same_body one other is = cc
-
--- what holds of each page holds of the first
-pub first_has : (P : ℕ → Body → Type 0) (page : ℕ) (tree : Forest Body) (body : Body) →
-    AllPages (λ id slug one. P id one) tree → has_page page tree ≡ true →
-    body_of tree page ≡ Some body → P page body
-first_has P page tree body all there found =
-    let node = node_found page tree (has_counts page tree there) in
-    let one = (subst (λ (f : Forest Body). AllPages (λ id slug own. P id own) f) node.is
-    (AllPages-node_of (λ id slug own. P id own) page tree all)).0 in
-    subst (λ (own : Body). P page own)
-    (same_body node.body body (sym (ap (λ (f : Forest Body). first_body f) node.is) ∙ found)) one
-
--- a revision of a page is found by its id
-own_found : (revisions : List Revision) (page id : ℕ) →
-    list_any (λ (revision : Revision). nat_eq revision.id id && nat_eq revision.page page) revisions
-    ≡ true → revision_with id revisions ≡ None → ⊥
-own_found [] page id own none = cc
-own_found (revision ∷ revisions) page id own none =
-    by (nat_eq revision.id id) (nat_eq revision.page page) own none
-    (own_found revisions page id)
-  where
-    by : (same paged : Bool) →
-        ((same && paged) || list_any
-        (λ (one : Revision). nat_eq one.id id && nat_eq one.page page) revisions) ≡ true →
-        (cond same (Some revision) (revision_with id revisions)) ≡ None →
-        (list_any (λ (one : Revision). nat_eq one.id id && nat_eq one.page page) revisions ≡ true →
-        revision_with id revisions ≡ None → ⊥) → ⊥
-    by true paged is missing later = cc
-    by false paged is missing later = later is missing
 
 -- a revision of a page that is named is not missing
 named_found : (revisions : List Revision) (page : ℕ) (latest : Option ℕ) →
@@ -176,7 +137,7 @@ latest_there part page reached below regular none =
     let there = kept_there page part.tree below.there in
     let body = there.0 in
     let found = there.1 in
-    let kept = first_has (IsBody part.revisions part.next_user part.next_workflow part.workflows)
+    let kept = page_has (IsBody part.revisions part.next_user part.next_workflow part.workflows)
     page part.tree body reached.sound.bodies.bodies below.there found in
     let own = kept.regular below.below (no_source body (rw found at regular)) in
     let at : latest_of part page
@@ -187,5 +148,5 @@ latest_there part page reached below regular none =
 pub not_moderated : (part : worlds.TreePart) (page : ℕ) (body : Body) → IsReachedPart part →
     IsBelow part.tree page → body_of part.tree page ≡ Some body → body.moderation ≡ None
 not_moderated part page body reached below found =
-    first_has (λ id own. own.moderation ≡ None) page part.tree body reached.none_yet.no_moderation
+    page_has (λ id own. own.moderation ≡ None) page part.tree body reached.none_yet.no_moderation
     below.there found

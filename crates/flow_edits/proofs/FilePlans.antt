@@ -42,8 +42,8 @@ use Rattle.grants.specs.declared.plan.Plan.{Plan}
 use Rattle.grants.proofs.StepLemmas.{own_refuses, pairs_agree}
 use Rattle.flow_edits.specs.Asked.{IsAsked}
 use Rattle.flow_edits.specs.Plans.{Plans, Tells, ending_plan, revision_of, filed_body, filing_plan}
-use Rattle.flow_edits.proofs.BodyRows.{rebodied_rows}
-use Rattle.flow_edits.proofs.Facts.{first_has, kept_there}
+use Rattle.flat_model.proofs.BodyRows.{rebodied_rows}
+use Rattle.flat_model.proofs.KeptPages.{kept_there, page_has}
 use Rattle.flow_edits.proofs.OpenPlans.{is_callers, callers_page}
 use Rattle.flow_edits.proofs.Planned.{planned, prepared, row_there}
 use Rattle.flow_edits.proofs.Steps.{part_left, ends_step}
@@ -204,7 +204,7 @@ module _ (kept room : TreePart) (part : worlds.TreePart) (desk : Option ContentV
           moderation = after_filing part.next_revision one.moderation;
         } in
         let unmoderated : body.moderation ≡ None =
-        first_has (λ id own. own.moderation ≡ None) page part.tree body
+        page_has (λ id own. own.moderation ≡ None) page part.tree body
         ready.reached.none_yet.no_moderation own_page.1 found in
         let same : change body ≡ filed_body body part.next_revision =
         ap (λ (m : Option Moderation). record body {

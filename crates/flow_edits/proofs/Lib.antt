@@ -1,4 +1,3 @@
-pub mod BodyRows
 pub mod Steps
 pub mod Planned
 pub mod Facts

@@ -24,7 +24,7 @@ use Rattle.grants.specs.declared.part.TreePart.{TreePart}
 use Rattle.grants.specs.declared.plan.Plan.{Plan}
 use Rattle.grants.proofs.LiveLemmas.{body_in}
 use Rattle.flow_edits.specs.Plans.{ending_plan, Plans}
-use Rattle.flow_edits.proofs.BodyRows.{rebodied_rows}
+use Rattle.flat_model.proofs.BodyRows.{rebodied_rows}
 use Rattle.flow_edits.proofs.Steps.{part_left, ending}
 
 -- a plan that ends these desks, where its change fits and leads where the step does

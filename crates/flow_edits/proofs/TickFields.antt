@@ -15,7 +15,7 @@ use Rattle.publishing.specs.Ticked.{has_come, after_expiry, gone_live, after_go_
 use Rattle.publishing.specs.Bodies.{expired_body, unscheduled_body}
 use Rattle.time_table.proofs.EntryLemmas.{eq_turned}
 use Rattle.publishing.proofs.BodyLemmas.{eq_means}
-use Rattle.flow_edits.proofs.Facts.{same_body}
+use Rattle.flat_model.proofs.KeptPages.{same_body}
 use Rattle.flow_edits.proofs.TickRows.{fields_by}
 
 -- what becomes of a page that stops being live

@@ -12,7 +12,7 @@ use Rattle.site_model.proofs.BodyLemmas.{count-rebodied}
 use Rattle.page_store.specs.Pages.{Page}
 use Rattle.flat_model.specs.Fits.{BodiesFit}
 use Rattle.flat_model.specs.Made.{with_bodies}
-use Rattle.flow_edits.proofs.BodyRows.{put, rebodied_map}
+use Rattle.flat_model.proofs.BodyRows.{put, rebodied_map}
 
 -- a row with these fields
 abbrev pub refielded : (ℕ → Body → Body) → Page → Page

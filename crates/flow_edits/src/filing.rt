@@ -168,7 +168,7 @@ fn filing_of(alloc: Global, filed: Revision, body: &Body, next_page: u32) -> Res
     let after = filed_body(body, id);
     let mut change = Change::of_body(alloc, page, after, filed.made, next_page, id.get() + 1)?;
     change.revisions = one_revision(alloc, filed)?;
-    Ok(ending(Reply::Id(id.get()), shut, change))
+    Ok(ending(alloc, Reply::Id(id.get()), shut, change))
 }
 
 /// What is kept of a page with this revision as its latest.

@@ -120,5 +120,5 @@ pub(crate) fn plan_shutting(
         part.next_page,
         part.next_revision,
     );
-    Ok(ending(Reply::Done, shut, change))
+    Ok(ending(alloc, Reply::Done, shut, change))
 }

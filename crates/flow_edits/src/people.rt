@@ -93,5 +93,5 @@ pub(crate) fn ready_plan(
         part.next_page,
         part.next_revision,
     );
-    Ok(ending(reply, shut, change))
+    Ok(ending(alloc, reply, shut, change))
 }

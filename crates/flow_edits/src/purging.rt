@@ -44,7 +44,7 @@ pub(crate) fn plan_purge(
         part.next_revision,
     );
     change.purge = Some(purge);
-    Ok(ending(Reply::Removed(count), no_pages(alloc), change))
+    Ok(ending(alloc, Reply::Removed(count), no_pages(alloc), change))
 }
 
 /// The purge of a page of which this is kept.

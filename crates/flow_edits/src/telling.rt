@@ -103,22 +103,18 @@ pub(crate) fn body_plan(
         (body_change page body time part.now.next_page part.now.next_revision)) result }
 {
     match Change::of_body(alloc, page, body, time, part.next_page, part.next_revision) {
-        Ok(change) => Ok(ending(reply, shut, change)),
+        Ok(change) => Ok(ending(alloc, reply, shut, change)),
         Err(_) => Err(Fault::Memory),
     }
 }
 
 /// A plan that opens no desk and ends those on these pages. It takes no memory.
-pub(crate) fn ending(reply: Reply, shut: Ids, change: Change) -> Plan
+pub(crate) fn ending(alloc: Global, reply: Reply, shut: Ids, change: Change) -> Plan
     ensures { result ≡ ending_plan reply shut change }
 {
-    Plan {
-        reply,
-        opened: None,
-        shut,
-        saved: None,
-        change,
-    }
+    let mut plan = Plan::quiet(alloc, reply, change);
+    plan.shut = shut;
+    plan
 }
 
 /// A list of one page.

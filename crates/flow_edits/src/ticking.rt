@@ -66,5 +66,5 @@ fn ticking_plan(
         published,
         dropped,
     };
-    ending(reply, no_pages(alloc), change)
+    ending(alloc, reply, no_pages(alloc), change)
 }

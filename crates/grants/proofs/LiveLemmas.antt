@@ -1,69 +1,17 @@
 -- Which pages are live, and what is kept of a page, as the rows say it.
-use Rattle.std.proofs.Common.{◌≡◌, ℕ, Bool, true, false, not, cond, nat_eq, List, [], ◌∷◌, ◌++◌, Option, Some, None, IsSome, take, drop, refl, sym, ap, ◌∙◌}
+use Rattle.std.proofs.Common.{◌≡◌, ℕ, Bool, true, false, not, List, Option, Some, None, IsSome, take, drop, refl, sym, ap, ◌∙◌}
 use Rattle.std.specs.List.{list_all}
-use Rattle.std.specs.Option.{option_map, option_map_or, option_or, IfSome}
-use Rattle.std.proofs.lemmas.List.Folds.{find-append}
-use Rattle.page_tree.specs.Tree.{Forest, bare, grown, node_of, or_else}
-use Rattle.page_tree.specs.Walk.{kid_count}
-use Rattle.page_tree.specs.Rows.{rows_below, rows_of, row_with, child_url}
+use Rattle.std.specs.Option.{option_map, option_map_or, IfSome}
+use Rattle.page_tree.specs.Tree.{Forest, bare, grown, node_of}
+use Rattle.page_tree.specs.Rows.{rows_of, row_with}
 use Rattle.site_types.specs.declared.body.Body.{Body}
 use Rattle.site_types.specs.declared.page_row.PageRow.{PageRow}
 use Rattle.page_store.specs.PageRows.{page_row, IsRange}
 use Rattle.page_store.specs.Pages.{Page, ArePages}
-use Rattle.site_model.specs.Views.{any_page, first_body, body_of, is_public, is_live, is_live_page, any_live}
+use Rattle.site_model.specs.Views.{any_page, body_of, is_public, is_live, is_live_page, any_live}
 use Rattle.grants.specs.Live.{is_public_in, is_live_in}
+use Rattle.link_plans.proofs.ModelLemmas.{tree_body}
 use Rattle.grants.proofs.OwnLemmas.{range_all, row_found}
-
--- what is kept of the first page of two trees, one after the other
-first_of_both : (one other : Forest Body) →
-    first_body (or_else one other) ≡ option_or (first_body one) (first_body other)
-first_of_both bare other = refl
-first_of_both (grown i s slug body kids rest) other = refl
-
--- what is found among rows, of the first list or of the second
-found_of_both : (one other : Option Page) →
-    option_map (λ (row : Page). row.body) (option_or one other)
-    ≡ option_or (option_map (λ (row : Page). row.body) one) (option_map (λ (row : Page). row.body) other)
-found_of_both None other = refl
-found_of_both (Some row) other = refl
-
--- what is kept of the first row or of a later one
-pick : (t : Bool) (row : Page) (more : Option Page) (node other : Forest Body) →
-    Some row.body ≡ first_body node →
-    option_map (λ (one : Page). one.body) more ≡ first_body other →
-    option_map (λ (one : Page). one.body) (cond t (Some row) more) ≡ first_body (cond t node other)
-pick true row more node other here after = here
-pick false row more node other here after = after
-
--- what is kept of a page is what its row has
-rows_body : (id : ℕ) (parent : Option ℕ) (path url : List ℕ) (f : Forest Body) →
-    option_map (λ (row : Page). row.body) (row_with id (rows_below parent path url f))
-    ≡ first_body (node_of id f)
-rows_body id parent path url bare = refl
-rows_body id parent path url (grown i s slug body kids rest) =
-    let below = rows_below (Some i) (path ++ s ∷ []) (child_url url slug) kids in
-    let after = rows_below parent path url rest in
-    let both : option_map (λ (row : Page). row.body) (row_with id (below ++ after))
-    ≡ first_body (or_else (node_of id kids) (node_of id rest)) =
-    ap (option_map (λ (row : Page). row.body))
-    (find-append (λ (row : Page). nat_eq row.id id) below after)
-    ∙ (found_of_both (row_with id below) (row_with id after)
-    ∙ (rw (
-      rows_body id (Some i) (path ++ s ∷ []) (child_url url slug) kids,
-      rows_body id parent path url rest,
-    ) (sym (first_of_both (node_of id kids) (node_of id rest))))) in
-    pick (nat_eq i id)
-    (record {
-      id = i;
-      parent = parent;
-      path = path ++ s ∷ [];
-      url = child_url url slug;
-      slug = slug;
-      numchild = kid_count kids;
-      body = body;
-    })
-    (row_with id (below ++ after)) (grown i s slug body kids bare)
-    (or_else (node_of id kids) (node_of id rest)) refl both
 
 -- tests that agree find the same among pages
 any_same : (one other : Body → Bool) (f : Forest Body) → ((body : Body) → one body ≡ other body) →
@@ -82,8 +30,8 @@ module _ (pages : List Page) (tree : Forest Body) (is_tree : pages ≡ rows_of t
   pub body_in : (id : ℕ) →
       body_of tree id ≡ option_map (λ (row : Page). row.body) (row_with id pages)
   body_in id =
-      sym (ap (λ rows. option_map (λ (row : Page). row.body) (row_with id rows)) is_tree
-      ∙ rows_body id None [] [] tree)
+      tree_body id tree
+      ∙ ap (λ rows. option_map (λ (row : Page). row.body) (row_with id rows)) (sym is_tree)
 
   -- the row of a page has what is kept of it
   pub body_found : (id : ℕ) (row : PageRow) → Some row ≡ option_map page_row (row_with id pages) →

@@ -6,10 +6,9 @@ use Rattle.flat_model.specs.Flat.{people_of, lists_of}
 use Rattle.flat_model.specs.Lists.{PeopleLists, PartLists}
 use Rattle.flat_model.proofs.ListLemmas.{people_are, lists_are}
 use Rattle.grants.specs.Lists.{GrantLists, SameLists, ListsStandFor}
-use Rattle.publishing.specs.Times.{AreTimed}
 use Rattle.revision_shelf.specs.Shelf.{RevisionList}
 use Rattle.desk_pairs.specs.Pairs.{PairList}
-use Rattle.grants.specs.Standing.{seen, seen_people, InStep, SameIndexes, IsSame, StandsFor, IsReady}
+use Rattle.grants.specs.Standing.{seen, seen_people, InStep, IsSame, StandsFor, IsReady, IsLinked}
 use Rattle.grants.specs.declared.part.TreePart.{TreePart}
 
 -- users, groups, memberships and grants of a world
@@ -29,8 +28,8 @@ stands_seen kept part stands =
 
 -- what has the lists of a world, and is in step, stands for it
 pub seen_stands : (kept : TreePart) (part : worlds.TreePart) → seen kept ≡ lists_of part →
-    InStep kept → StandsFor kept part
-seen_stands kept part is in_step =
+    InStep kept → IsLinked kept → StandsFor kept part
+seen_stands kept part is in_step linked =
     let people : seen_people kept.grants ≡ people_of part = ap (λ (l : PartLists). l.people) is in
     record {
       pages = ap (λ (l : PartLists). l.pages) is;
@@ -48,6 +47,7 @@ seen_stands kept part is in_step =
       next_page = ap (λ (l : PartLists). l.next_page) is;
       next_revision = ap (λ (l : PartLists). l.next_revision) is;
       in_step = in_step;
+      linked = linked;
     }
 
 -- what is not changed is the same
@@ -60,7 +60,7 @@ same_itself kept = record {
   time = refl;
   next_page = refl;
   next_revision = refl;
-  indexes = record { expiries = refl; go_lives = refl; aliases = refl };
+  indexes = record { expiries = refl; go_lives = refl; aliases = refl; links = refl };
 }
 
 -- what is the same twice is the same
@@ -83,6 +83,7 @@ same_both before mid after one other = record {
     expiries = other.indexes.expiries ∙ one.indexes.expiries;
     go_lives = other.indexes.go_lives ∙ one.indexes.go_lives;
     aliases = other.indexes.aliases ∙ one.indexes.aliases;
+    links = other.indexes.links ∙ one.indexes.links;
   };
 }
 
@@ -97,7 +98,7 @@ same_grants kept grants same = record {
   time = refl;
   next_page = refl;
   next_revision = refl;
-  indexes = record { expiries = refl; go_lives = refl; aliases = refl };
+  indexes = record { expiries = refl; go_lives = refl; aliases = refl; links = refl };
 }
 
 -- with other room for revisions all is the same
@@ -111,7 +112,7 @@ same_shelf kept shelf is = record {
   time = refl;
   next_page = refl;
   next_revision = refl;
-  indexes = record { expiries = refl; go_lives = refl; aliases = refl };
+  indexes = record { expiries = refl; go_lives = refl; aliases = refl; links = refl };
 }
 
 -- with other room for desks all is the same
@@ -125,7 +126,7 @@ same_pairs kept pairs is = record {
   time = refl;
   next_page = refl;
   next_revision = refl;
-  indexes = record { expiries = refl; go_lives = refl; aliases = refl };
+  indexes = record { expiries = refl; go_lives = refl; aliases = refl; links = refl };
 }
 
 -- what is the same but for room has the same lists
@@ -137,7 +138,7 @@ same_seen before after same =
     same.time same.next_page same.next_revision
 
 -- what is in step is so with other room
-pub same_in_step : (before after : TreePart) → IsSame before after → InStep before → InStep after
+same_in_step : (before after : TreePart) → IsSame before after → InStep before → InStep after
 same_in_step before after same step = record {
   timed = record {
     expiries = λ page.
@@ -149,12 +150,23 @@ same_in_step before after same step = record {
       rw (same.indexes.aliases, same.pages) (step.aliased source alias);
 }
 
+-- so are the links
+same_linked : (before after : TreePart) → IsSame before after → IsLinked before → IsLinked after
+same_linked before after same is linked page =
+    rw (same.indexes.links, same.pages, same.revisions) (is linked page)
+
 -- what stands for a world stands for it with other room
+pub same_stands : (before after : TreePart) (part : worlds.TreePart) → IsSame before after →
+    StandsFor before part → StandsFor after part
+same_stands before after part same stands =
+    seen_stands after part (same_seen before after same ∙ stands_seen before part stands)
+    (same_in_step before after same stands.in_step)
+    (same_linked before after same stands.linked)
+
+-- and is ready with it
 pub same_ready : (before after : TreePart) (part : worlds.TreePart) → IsSame before after →
     IsReady before part → IsReady after part
 same_ready before after part same ready = record {
-  stands = seen_stands after part (same_seen before after same
-      ∙ stands_seen before part ready.stands)
-      (same_in_step before after same ready.stands.in_step);
+  stands = same_stands before after part same ready.stands;
   reached = ready.reached;
 }

@@ -24,10 +24,10 @@ use Rattle.grants.specs.declared.part.TreePart.{TreePart}
 use Rattle.grants.specs.declared.plan.Plan.{Plan}
 use Rattle.grants.specs.Standing.{IsReady}
 
--- a plan that opens and ends no desk
+-- a plan that opens and ends no desk, and gives no page other links
 abbrev pub quiet_plan : Reply → Change → Plan
 quiet_plan reply change =
-    record { reply = reply; opened = None; shut = []; saved = None; change = change }
+    record { reply = reply; opened = None; shut = []; saved = None; change = change; links = [] }
 
 -- how many rows' room a change of the rows takes at most
 abbrev pub rows_needed : TreeChange → ℕ

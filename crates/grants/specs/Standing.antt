@@ -1,14 +1,11 @@
 -- How the tree part in memory stands for a world's.
-use Rattle.std.specs.Prelude.{◌≡◌, ◌+◌, ℕ, List, [], Option, Some}
-use Rattle.std.specs.Option.{option_and_then}
+use Rattle.std.specs.Prelude.{◌≡◌, ◌+◌, []}
 use Rattle.page_tree.specs.Rows.{rows_of}
-use Rattle.site_model.specs.Bodies.{same_number}
 use Rattle.site_model.specs.World as worlds
 use Rattle.site_model.specs.Reached.{IsReachedPart}
 use Rattle.flat_model.specs.Lists.{PeopleLists, PartLists}
-use Rattle.page_store.specs.Pages.{Page}
-use Rattle.publishing.specs.Times.{AreTimed, body_in}
-use Rattle.link_index.specs.Pairs.{has_pair}
+use Rattle.publishing.specs.Times.{AreTimed}
+use Rattle.link_plans.specs.PageLinks.{AreAliases, AreLinked}
 use Rattle.grants.specs.declared.part.TreePart.{TreePart}
 use Rattle.grants.specs.Lists.{GrantLists, SameLists, ListsStandFor}
 
@@ -37,27 +34,23 @@ seen kept =
       next_revision = kept.next_revision;
     }
 
--- the source of a page, where the page is there and is an alias
-abbrev pub source_in : ℕ → List Page → Option ℕ
-source_in page pages = option_and_then (λ body. body.source) (body_in page pages)
-
--- the pairs are those of each alias and its source
-abbrev pub AreAliases : List (ℕ × ℕ) → List Page → Type 0
-AreAliases pairs pages =
-    (source alias : ℕ) →
-    has_pair source alias pairs ≡ same_number (source_in alias pages) (Some source)
-
 -- What is found fast is in step with the rows and the revisions: the tables have the moments of the
 -- pages, and the pairs of sources and aliases are those of the pages.
 pub record InStep (kept : TreePart) : Type 0 where
   pub timed : AreTimed kept.times kept.rows.pages kept.shelf.revisions
   pub aliased : AreAliases kept.aliases.pairs kept.rows.pages
 
+-- the pairs of pages that are linked to and of those that link to them are in step with the rows
+-- and the revisions
+abbrev pub IsLinked : TreePart → Type 0
+IsLinked kept = AreLinked kept.links.pairs kept.rows.pages kept.shelf.revisions
+
 -- what is found fast is as it was
 pub record SameIndexes (before after : TreePart) : Type 0 where
   pub expiries : after.times.expiries.entries ≡ before.times.expiries.entries
   pub go_lives : after.times.go_lives.entries ≡ before.times.go_lives.entries
   pub aliases : after.aliases.pairs ≡ before.aliases.pairs
+  pub links : after.links.pairs ≡ before.links.pairs
 
 -- all but the room is as it was
 pub record IsSame (before after : TreePart) : Type 0 where
@@ -84,6 +77,7 @@ pub record StandsFor (kept : TreePart) (part : worlds.TreePart) : Type 0 where
   pub next_page : kept.next_page ≡ part.next_page
   pub next_revision : kept.next_revision ≡ part.next_revision
   pub in_step : InStep kept
+  pub linked : IsLinked kept
 
 -- What is in memory stands for a world that commands reach.
 pub record IsReady (kept : TreePart) (part : worlds.TreePart) : Type 0 where

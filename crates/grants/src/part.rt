@@ -1,7 +1,7 @@
 //! The tree part of the site in memory.
 use crate::Grants;
 use desk_pairs::DeskPairs;
-use link_index::Aliases;
+use link_index::{Aliases, LinkIndex};
 use page_store::Rows;
 use revision_shelf::Shelf;
 use site_types::Moment;
@@ -30,4 +30,6 @@ pub struct TreePart {
     pub times: Times,
     /// The aliases of the pages.
     pub aliases: Aliases,
+    /// The pages that link to pages.
+    pub links: LinkIndex,
 }

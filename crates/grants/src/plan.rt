@@ -3,7 +3,7 @@ ghost use Rattle.std.specs.Prelude.{◌≡◌};
 ghost use Rattle.grants.specs.Plans.{quiet_plan};
 
 use flat_model::Change;
-use site_types::{Content, Ids, PageId, Reply, UserId};
+use site_types::{Content, Ids, Items, PageId, Reply, UserId};
 use std::alloc::Global;
 
 /// What a command that no rule refuses will do: nothing is left to find out, and no memory to take.
@@ -19,10 +19,13 @@ pub struct Plan {
     pub saved: Option<(PageId, UserId, Content)>,
     /// What it changes.
     pub change: Change,
+    /// The pages that get other links, each with the ids that it links to then, to be put in one
+    /// after another. They are found after all else.
+    pub links: Items<(PageId, Ids)>,
 }
 
 impl Plan {
-    /// A plan that opens and ends no desk. It takes no memory.
+    /// A plan that opens and ends no desk, and gives no page other links. It takes no memory.
     pub fn quiet(alloc: Global, reply: Reply, change: Change) -> Plan
         ensures { result ≡ quiet_plan reply change }
     {
@@ -32,6 +35,7 @@ impl Plan {
             shut: Ids::from_vec(Vec::new(alloc)),
             saved: None,
             change,
+            links: Items::from_vec(Vec::new(alloc)),
         }
     }
 }

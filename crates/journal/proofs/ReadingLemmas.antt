@@ -8,12 +8,12 @@ use Rattle.journal.specs.Form.{header, record_of, opened, front, Fits, Recovers}
 use Rattle.journal.specs.Scan.{HasHeader, IsCutShort}
 
 -- two records that begin the same bytes are one, with the same bytes after them
-record IsSame (first second rest other : List ℕ) : Type 0 where
-  payload : first ≡ second
-  tail : rest ≡ other
+pub record IsSame (first second rest other : List ℕ) : Type 0 where
+  pub payload : first ≡ second
+  pub tail : rest ≡ other
 
 -- two records that begin the same bytes are one
-same_record : (first second rest other : List ℕ) → Fits first → Fits second
+pub same_record : (first second rest other : List ℕ) → Fits first → Fits second
     → record_of first ++ rest ≡ record_of second ++ other → IsSame first second rest other
 same_record first second rest other fits other_fits is =
     let four : to_be_bytes w32 (length first) ≡ to_be_bytes w32 (length second) =
@@ -30,14 +30,14 @@ same_record first second rest other fits other_fits is =
     }
 
 -- the first record, and what follows it
-opened-first : (payload : List ℕ) (payloads : List (List ℕ)) (rest : List ℕ)
+pub opened-first : (payload : List ℕ) (payloads : List (List ℕ)) (rest : List ℕ)
     → opened (payload ∷ payloads) ++ rest ≡ 1 ∷ record_of payload ++ (opened payloads ++ rest)
 unfolding opened
 opened-first payload payloads rest =
     append_assoc (1 ∷ record_of payload) (opened payloads) rest
 
 -- no payload has no bytes
-opened-none : (rest : List ℕ) → opened [] ++ rest ≡ rest
+pub opened-none : (rest : List ℕ) → opened [] ++ rest ≡ rest
 unfolding opened
 opened-none rest = refl
 
@@ -46,7 +46,7 @@ same_head : (x y : ℕ) (xs ys : List ℕ) → x ∷ xs ≡ y ∷ ys → x ≡ y
 same_head x y xs ys is = cc
 
 -- lists that are the same go on the same
-same_tail : (x y : ℕ) (xs ys : List ℕ) → x ∷ xs ≡ y ∷ ys → xs ≡ ys
+pub same_tail : (x y : ℕ) (xs ys : List ℕ) → x ∷ xs ≡ y ∷ ys → xs ≡ ys
 same_tail x y xs ys is = cc
 
 -- two readings of the same bytes are one
@@ -98,7 +98,7 @@ opened-sound (first ∷ payloads) (second ∷ others) gate rest after is closed 
     opened-sound payloads others gate rest after same.tail closed fit.1 fits.1 none
 
 -- what stands after the header
-after_header : (k : ℕ) (payloads others : List (List ℕ)) (rest after : List ℕ)
+pub after_header : (k : ℕ) (payloads others : List (List ℕ)) (rest after : List ℕ)
     → front k payloads ++ rest ≡ front k others ++ after
     → opened payloads ++ rest ≡ opened others ++ after
 unfolding front

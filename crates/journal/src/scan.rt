@@ -140,9 +140,10 @@ impl Scan {
         Journal::at(self.k, self.gate)
     }
 
-    /// The offset of the next gate.
-    fn gate(&self) -> u64
-        ensures { result ≡ self.now.gate }
+    /// The offset of the next gate, which is before the end of the file.
+    pub fn gate(&self) -> u64
+        ensures gate { result ≡ self.now.gate }
+        ensures within { result < self.now.size }
     {
         self.gate
     }

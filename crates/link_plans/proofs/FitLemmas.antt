@@ -18,7 +18,7 @@ use Rattle.link_plans.specs.Found.{RevisionsRise}
 use Rattle.link_plans.specs.PageLinks.{content_in}
 use Rattle.link_plans.specs.Told.{NamesThere, AllNamed, AreRowsTold, SameContents, TellsPages, body_told, content_told, fate, row_fates, pages_made, revisions_made}
 use Rattle.link_plans.proofs.FindLemmas.{none_below}
-use Rattle.link_plans.proofs.TellLemmas.{AreOthers, same_before, same_after, told_append, told_bodies, told_gone}
+use Rattle.link_plans.proofs.TellLemmas.{AreOthers, same_before, same_after, told_append, told_bodies}
 
 -- what holds of all holds of the last
 last_of : {X : Type 0} (P : X → Type 0) (xs : List X) (x : X) → AllByRecursion P (xs ++ x ∷ []) → P x
@@ -137,7 +137,7 @@ found_left id before stays (revision ∷ revisions) rise there =
     by false false is some more = more some
 
 -- what is found among those that a change leaves is what was found among all
-left_found : (id : ℕ) (gone : List ℕ) (purge : Option Purge) (revisions : List Revision) →
+pub left_found : (id : ℕ) (gone : List ℕ) (purge : Option Purge) (revisions : List Revision) →
     IdsRise 0 revisions →
     IsSome (revision_with id (purge_left purge (revisions_left gone revisions))) →
     revision_with id (purge_left purge (revisions_left gone revisions))
@@ -156,7 +156,7 @@ if_weaker P Q weaker (Some body) holds = weaker body holds
 -- a change that fits tells all of the pages after it
 pub change_tells : (pages : List Page) (revisions : List Revision) (change : Change) →
     IdsRise 0 revisions → RevisionsFit change.revisions revisions →
-    BodiesFit change.bodies (rows_made change.tree pages) → AreRowsTold pages change →
+    BodiesFit change.bodies (rows_made change.tree pages) → AreRowsTold change.tree pages →
     AllNamed pages revisions →
     AllNamed (pages_made change pages) (revisions_made change revisions) →
     TellsPages pages revisions change
@@ -168,15 +168,10 @@ change_tells pages revisions change rise fits bodies rows before after =
           told_bodies change.bodies (rows_made change.tree pages) page bodies
           ∙ ap (λ (was : Option Body).
           body_told (map (λ (one : ℕ × Body). fate one.0 (Some one.1)) change.bodies) page was)
-          (rows page
-          ∙ ap (λ (was : Option Body). body_told (row_fates change.tree) page was)
-          (sym (told_gone change.gone page (body_in page pages))))
-          ∙ sym (told_append (map (λ (id : ℕ). fate id None) change.gone)
-          (row_fates change.tree ++ map (λ (one : ℕ × Body). fate one.0 (Some one.1)) change.bodies)
-          page (body_in page pages)
-          ∙ told_append (row_fates change.tree)
+          (rows page)
+          ∙ sym (told_append (row_fates change.tree pages)
           (map (λ (one : ℕ × Body). fate one.0 (Some one.1)) change.bodies) page
-          (body_told (map (λ (id : ℕ). fate id None) change.gone) page (body_in page pages)));
+          (body_in page pages));
       before = λ page.
           if_weaker (NamesThere revisions)
           (SameContents (content_told change.revisions revisions) (content_in revisions))

@@ -97,7 +97,7 @@ module _ (pages : List Page) (revisions : List Revision) (change : Change) (pair
     (aliases : AreAliases pairs pages) (tells : TellsPages pages revisions change) where
   -- where contents and pages are found after the change, as it tells them
   abbrev told : Finds
-  told = finds_told pages revisions change.revisions (fates_of change)
+  told = finds_told pages revisions change.revisions (fates_of change pages)
 
   -- where they are found before it
   abbrev before : Finds
@@ -109,7 +109,7 @@ module _ (pages : List Page) (revisions : List Revision) (change : Change) (pair
 
   -- the first round tells of a page with the fields that it had what holds after the change
   first_round : (page linked : ℕ) →
-      aliases_told told pairs (fates_of change) page linked (page_links pages revisions page linked)
+      aliases_told told pairs (fates_of change pages) page linked (page_links pages revisions page linked)
       ≡ kept_links told (body_in page pages) linked
   first_round page linked =
       by (body_in page pages) (tells.before page) (λ source. aliases source page)
@@ -118,10 +118,10 @@ module _ (pages : List Page) (revisions : List Revision) (change : Change) (pair
       regular : (body : Body) → body.source ≡ None →
           SameContents told.content before.content body →
           ((source : ℕ) → has_pair source page pairs ≡ same_number body.source (Some source)) →
-          aliases_told told pairs (fates_of change) page linked (kept_links before (Some body) linked)
+          aliases_told told pairs (fates_of change pages) page linked (kept_links before (Some body) linked)
           ≡ kept_links told (Some body) linked
       regular body is same only =
-          others_are told pairs (fates_of change) page linked (kept_links before (Some body) linked)
+          others_are told pairs (fates_of change pages) page linked (kept_links before (Some body) linked)
           (λ source. only source ∙ rw is refl)
           ∙ rw is
           (rw (sym (same.latest), sym (live_same told before body same refl linked)) refl)
@@ -129,20 +129,20 @@ module _ (pages : List Page) (revisions : List Revision) (change : Change) (pair
       -- an alias
       alias : (body : Body) (source : ℕ) → body.source ≡ Some source →
           ((other : ℕ) → has_pair other page pairs ≡ same_number body.source (Some other)) →
-          aliases_told told pairs (fates_of change) page linked (kept_links before (Some body) linked)
+          aliases_told told pairs (fates_of change pages) page linked (kept_links before (Some body) linked)
           ≡ kept_links told (Some body) linked
       alias body source is only =
           rw is
-          (ap (λ (was : Bool). aliases_told told pairs (fates_of change) page linked was)
+          (ap (λ (was : Bool). aliases_told told pairs (fates_of change pages) page linked was)
           (sym (live_alike told before (body_in source pages) (tells.before source) refl linked))
-          ∙ aliases_are told pairs (fates_of change) page linked source (body_in source pages)
+          ∙ aliases_are told pairs (fates_of change pages) page linked source (body_in source pages)
           (λ other. only other ∙ rw is refl))
 
       -- either
       kept : (body : Body) (source : Option ℕ) → body.source ≡ source →
           SameContents told.content before.content body →
           ((other : ℕ) → has_pair other page pairs ≡ same_number body.source (Some other)) →
-          aliases_told told pairs (fates_of change) page linked (kept_links before (Some body) linked)
+          aliases_told told pairs (fates_of change pages) page linked (kept_links before (Some body) linked)
           ≡ kept_links told (Some body) linked
       kept body None is same only = regular body is same only
       kept body (Some source) is same only = alias body source is only
@@ -150,20 +150,20 @@ module _ (pages : List Page) (revisions : List Revision) (change : Change) (pair
       by : (body : Option Body) → IfSome body (SameContents told.content before.content) →
           ((source : ℕ) → has_pair source page pairs
           ≡ same_number (option_and_then (λ (one : Body). one.source) body) (Some source)) →
-          aliases_told told pairs (fates_of change) page linked (kept_links before body linked)
+          aliases_told told pairs (fates_of change pages) page linked (kept_links before body linked)
           ≡ kept_links told body linked
       by None same only =
-          others_are told pairs (fates_of change) page linked false (λ source. only source)
+          others_are told pairs (fates_of change pages) page linked false (λ source. only source)
       by (Some body) same only = kept body body.source refl same only
 
   -- two rounds tell of each page what holds after the change
   pub both_rounds : (page linked : ℕ) →
-      pages_told told (fates_of change) page linked
-      (aliases_told told pairs (fates_of change) page linked (page_links pages revisions page linked))
+      pages_told told (fates_of change pages) page linked
+      (aliases_told told pairs (fates_of change pages) page linked (page_links pages revisions page linked))
       ≡ page_links (pages_made change pages) (revisions_made change revisions) page linked
   both_rounds page linked =
-      ap (λ (was : Bool). pages_told told (fates_of change) page linked was) (first_round page linked)
-      ∙ pages_are told (fates_of change) page linked (body_in page pages)
+      ap (λ (was : Bool). pages_told told (fates_of change pages) page linked was) (first_round page linked)
+      ∙ pages_are told (fates_of change pages) page linked (body_in page pages)
       ∙ ap (λ (body : Option Body). kept_links told body linked) (sym (tells.bodies page))
       ∙ kept_alike told after (body_in page (pages_made change pages)) refl (tells.after page)
       (λ source. sym (tells.bodies source)) tells.after linked
@@ -171,7 +171,7 @@ module _ (pages : List Page) (revisions : List Revision) (change : Change) (pair
 -- two rounds put in one after the other are the links after a change
 pub plan_is : (pages : List Page) (revisions : List Revision) (change : Change)
     (pairs : List (ℕ × ℕ)) → AreAliases pairs pages → TellsPages pages revisions change →
-    (new : List Revision) (fates : List Fate) → new ≡ change.revisions → fates ≡ fates_of change →
+    (new : List Revision) (fates : List Fate) → new ≡ change.revisions → fates ≡ fates_of change pages →
     (none some all : List (ℕ × List ℕ)) → none ≡ [] →
     ((page linked : ℕ) (was : Bool) → links_told some page linked was
     ≡ aliases_told (finds_told pages revisions new fates) pairs fates page linked

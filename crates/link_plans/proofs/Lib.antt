@@ -1,6 +1,7 @@
 pub mod FindLemmas
 pub mod FitLemmas
 pub mod GatheredLemmas
+pub mod GoingLemmas
 pub mod LayerLemmas
 pub mod ModelLemmas
 pub mod RefLemmas

@@ -36,7 +36,7 @@ abbrev pub ChangeTells : Type 0
 ChangeTells =
     (pages : List Page) (revisions : List Revision) (change : Change) → IdsRise 0 revisions →
     RevisionsFit change.revisions revisions →
-    BodiesFit change.bodies (rows_made change.tree pages) → AreRowsTold pages change →
+    BodiesFit change.bodies (rows_made change.tree pages) → AreRowsTold change.tree pages →
     AllNamed pages revisions →
     AllNamed (pages_made change pages) (revisions_made change revisions) →
     TellsPages pages revisions change
@@ -45,4 +45,4 @@ ChangeTells =
 abbrev pub NewRowsAreTold : Type 0
 NewRowsAreTold =
     (new : List (PageRow × List ℕ)) (pages : List Page) → PagesFit new pages → (page : ℕ) →
-    body_in page (with_pages new pages) ≡ body_told (row_fates (Insert new)) page (body_in page pages)
+    body_in page (with_pages new pages) ≡ body_told (row_fates (Insert new) pages) page (body_in page pages)

@@ -2,7 +2,8 @@
 -- and which pages it links to.
 use Rattle.std.specs.Prelude.{◌≡◌, ℕ, ◌+◌, Bool, nat_eq, if◌then◌else◌, List, [], ◌∷◌, ◌++◌, map, length, Option, Some, None, IsSome}
 use Rattle.std.specs.List.{list_any}
-use Rattle.std.specs.Option.{IfSome, option_map, option_or}
+use Rattle.std.specs.Option.{IfSome, option_map, option_map_or, option_or}
+use Rattle.page_tree.specs.Rows.{row_with}
 use Rattle.site_types.specs.Content.{ContentValue}
 use Rattle.site_types.specs.declared.body.Body.{Body}
 use Rattle.site_types.specs.declared.page_row.PageRow.{PageRow}
@@ -10,7 +11,7 @@ use Rattle.site_types.specs.declared.revision.Revision.{Revision}
 use Rattle.page_store.specs.Pages.{Page}
 use Rattle.revision_shelf.specs.Shelf.{revision_with}
 use Rattle.publishing.specs.Times.{body_in, named}
-use Rattle.flat_model.specs.Made.{with_bodies, rows_made, revisions_left, purge_left}
+use Rattle.flat_model.specs.Made.{with_bodies, rows_made, subtree, revisions_left, purge_left}
 use Rattle.flat_model.specs.declared.change.Change.{Change}
 use Rattle.flat_model.specs.declared.change.TreeChange.{TreeChange}
 use Rattle.flat_model.specs.declared.change.TreeChange.TheVariants as trees
@@ -30,21 +31,29 @@ revisions_made change revisions =
 abbrev pub fate : ℕ → Option Body → Fate
 fate page body = record { page = page; body = body }
 
--- what becomes of pages that come
-abbrev pub row_fates : TreeChange → List Fate
-row_fates trees.Nothing = []
-row_fates (trees.Insert new) =
-    map (λ (row : PageRow × List ℕ). fate row.0.id (Some row.0.body)) new
-row_fates (trees.Move plan urls) = []
-row_fates (trees.Delete page) = []
-row_fates (trees.Rename page slug urls) = []
+-- the ids of a page and of all below it, depth first; none if there is no such page
+abbrev pub gone_with : ℕ → List Page → List ℕ
+gone_with page pages =
+    option_map_or (λ top. map (λ row. row.id) (subtree top.path pages)) (row_with page pages) []
 
--- what becomes of pages by a change, one after another: they go, come, or get other fields
-abbrev pub fates_of : Change → List Fate
-fates_of change =
-    map (λ (page : ℕ). fate page None) change.gone
-    ++ (row_fates change.tree
-    ++ map (λ (one : ℕ × Body). fate one.0 (Some one.1)) change.bodies)
+-- pages that go
+abbrev pub gone_fates : List ℕ → List Fate
+gone_fates pages = map (λ page. fate page None) pages
+
+-- what becomes of pages that come or go by a change of the rows
+abbrev pub row_fates : TreeChange → List Page → List Fate
+row_fates trees.Nothing pages = []
+row_fates (trees.Insert new) pages =
+    map (λ (row : PageRow × List ℕ). fate row.0.id (Some row.0.body)) new
+row_fates (trees.Move plan urls) pages = []
+row_fates (trees.Delete page) pages = gone_fates (gone_with page pages)
+row_fates (trees.Rename page slug urls) pages = []
+
+-- what becomes of pages by a change, one after another: they come or go, or get other fields
+abbrev pub fates_of : Change → List Page → List Fate
+fates_of change pages =
+    row_fates change.tree pages
+    ++ map (λ (one : ℕ × Body). fate one.0 (Some one.1)) change.bodies
 
 -- what is kept of a page after these, where this was kept of it before
 abbrev pub body_told : List Fate → ℕ → Option Body → Option Body
@@ -79,7 +88,7 @@ pub record SameContents (one other : Option ℕ → Option ContentValue) (body :
 pub record TellsPages (pages : List Page) (revisions : List Revision) (change : Change) :
     Type 0 where
   pub bodies : (page : ℕ) → body_in page (pages_made change pages)
-      ≡ body_told (fates_of change) page (body_in page pages)
+      ≡ body_told (fates_of change pages) page (body_in page pages)
   pub before : (page : ℕ) → IfSome (body_in page pages)
       (SameContents (content_told change.revisions revisions) (content_in revisions))
   pub after : (page : ℕ) → IfSome (body_in page (pages_made change pages))
@@ -97,12 +106,11 @@ AllNamed pages revisions = (page : ℕ) → IfSome (body_in page pages) (NamesTh
 
 -- a change of the rows takes out the pages that go, and puts in those that come; all others keep
 -- what is kept of them
-abbrev pub AreRowsTold : List Page → Change → Type 0
-AreRowsTold pages change =
+abbrev pub AreRowsTold : TreeChange → List Page → Type 0
+AreRowsTold change pages =
     (page : ℕ) →
-    body_in page (rows_made change.tree pages)
-    ≡ body_told (row_fates change.tree) page
-    (if list_any (λ id. nat_eq id page) change.gone then None else body_in page pages)
+    body_in page (rows_made change pages)
+    ≡ body_told (row_fates change pages) page (body_in page pages)
 
 -- whether a page links to the page with this id after pages got other links, one after another
 abbrev pub links_told : List (ℕ × List ℕ) → ℕ → ℕ → Bool → Bool

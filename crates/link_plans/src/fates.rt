@@ -1,12 +1,12 @@
 //! What becomes of pages by a change.
-ghost use Rattle.std.specs.Prelude.{◌≡◌, ◌++◌, ℕ, List, map, None, Some, IfOk, OnOk};
-ghost use Rattle.std.specs.List.{AllByRecursion};
+ghost use Rattle.std.specs.Prelude.{◌≡◌, ◌+◌, ◌≤◌, ◌++◌, ℕ, List, length, map, take, drop, Some, IfOk, OnOk};
 ghost use Rattle.site_types.specs.Ids.{IsPageId};
 ghost use Rattle.site_types.specs.declared.body.Body.{Body as PageBody};
 ghost use Rattle.site_types.specs.declared.page_row.PageRow.{PageRow as NewRow};
-ghost use Rattle.link_plans.specs.Told.{fate, row_fates, fates_of};
+ghost use Rattle.link_plans.specs.Told.{fate, gone_with, gone_fates, row_fates, fates_of};
 
 use flat_model::{Change, TreeChange};
+use page_store::Rows;
 use site_types::{Body, NoMemory, PageId, PageRow, Url};
 use std::alloc::Global;
 
@@ -19,42 +19,57 @@ pub struct Fate {
     pub body: Option<Body>,
 }
 
-/// What becomes of the pages that go, that come and that get other fields, one after another.
-pub(crate) fn fates(alloc: Global, change: &Change) -> Result<Vec<Fate>, NoMemory>
-    requires gone { AllByRecursion IsPageId change.now.gone }
-    ensures { IfOk result (λ fates. fates.items ≡ fates_of change.now) }
+/// What becomes of the pages that come, that go and that get other fields, one after another.
+///
+/// A deletion costs as much as `range_of`, and a look-up for each page that goes.
+pub(crate) fn fates(alloc: Global, rows: &Rows, change: &Change) -> Result<Vec<Fate>, NoMemory>
+    ensures { IfOk result (λ fates. fates.items ≡ fates_of change.now rows.now.pages) }
 {
     let mut fates = Vec::new(alloc);
-    add_gone(&mut fates, change.gone.as_slice())?;
-    add_new(&mut fates, &change.tree)?;
+    add_tree(&mut fates, rows, &change.tree)?;
     add_bodies(&mut fates, change.bodies.as_slice())?;
     Ok(fates)
 }
 
-/// Adds the pages that go.
-fn add_gone(fates: &mut Vec<Fate>, gone: &[u32]) -> Result<(), NoMemory>
-    requires { AllByRecursion IsPageId gone.now }
-    ensures { OnOk result (fates.new.items
-        ≡ fates.old.items ++ map (λ (page : ℕ). fate page None) gone.now) }
+/// Adds the pages that come or go.
+fn add_tree(fates: &mut Vec<Fate>, rows: &Rows, tree: &TreeChange) -> Result<(), NoMemory>
+    ensures { OnOk result
+        (fates.new.items ≡ fates.old.items ++ row_fates tree.now rows.now.pages) }
 {
-    for number in gone {
-        let page = page_of(*number);
+    match tree {
+        TreeChange::Insert { rows: new } => add_rows(fates, new.as_slice()),
+        TreeChange::Delete { page } => add_gone(fates, rows, *page),
+        TreeChange::Nothing => Ok(()),
+        TreeChange::Move { .. } => Ok(()),
+        TreeChange::Rename { .. } => Ok(()),
+    }
+}
+
+/// Adds a page and all below it, which go.
+fn add_gone(fates: &mut Vec<Fate>, rows: &Rows, page: PageId) -> Result<(), NoMemory>
+    ensures { OnOk result
+        (fates.new.items ≡ fates.old.items ++ gone_fates (gone_with page rows.now.pages)) }
+{
+    match rows.range_of(page) {
+        Some((place, count)) => add_range(fates, rows, place, count),
+        None => Ok(()),
+    }
+}
+
+/// Adds so many pages from a place on, which go.
+fn add_range(fates: &mut Vec<Fate>, rows: &Rows, place: usize, count: usize) -> Result<(), NoMemory>
+    requires { place + count ≤ length rows.now.pages }
+    ensures { OnOk result (fates.new.items ≡ fates.old.items
+        ++ gone_fates (map (λ row. row.id) (take count (drop place rows.now.pages)))) }
+{
+    let _len = rows.len();
+    for done in 0..count {
+        let Some(page) = rows.at(place + done) else {
+            unreachable!();
+        };
         fates.push(Fate { page, body: None })?;
     }
     Ok(())
-}
-
-/// Adds the pages that come.
-fn add_new(fates: &mut Vec<Fate>, tree: &TreeChange) -> Result<(), NoMemory>
-    ensures { OnOk result (fates.new.items ≡ fates.old.items ++ row_fates tree.now) }
-{
-    match tree {
-        TreeChange::Insert { rows } => add_rows(fates, rows.as_slice()),
-        TreeChange::Nothing => Ok(()),
-        TreeChange::Move { .. } => Ok(()),
-        TreeChange::Delete { .. } => Ok(()),
-        TreeChange::Rename { .. } => Ok(()),
-    }
 }
 
 /// Adds the pages of these rows.

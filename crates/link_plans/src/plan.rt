@@ -1,7 +1,5 @@
 //! The plan of links.
 ghost use Rattle.std.specs.Prelude.{◌≡◌, IfOk};
-ghost use Rattle.std.specs.List.{AllByRecursion};
-ghost use Rattle.site_types.specs.Ids.{IsPageId};
 ghost use Rattle.flat_model.specs.Fits.{RevisionsFit};
 ghost use Rattle.link_plans.specs.PageLinks.{AreAliases};
 ghost use Rattle.link_plans.specs.Told.{TellsPages, AreLinksAfter};
@@ -21,7 +19,8 @@ use std::alloc::Global;
 /// to what they linked to.
 ///
 /// For each page that goes, comes or gets other fields it takes a search among the aliases, and for
-/// it and each of its aliases the links of at most two contents.
+/// it and each of its aliases the links of at most two contents; for an alias that comes or gets
+/// other fields, a look at each of these pages too.
 pub fn plan_links(
     alloc: Global,
     rows: &Rows,
@@ -29,13 +28,12 @@ pub fn plan_links(
     aliases: &Aliases,
     change: &Change,
 ) -> Result<Items<(PageId, Ids)>, NoMemory>
-    requires gone { AllByRecursion IsPageId change.now.gone }
     requires fit { RevisionsFit change.now.revisions shelf.now.revisions }
     ensures { IfOk result (λ planned. AreAliases aliases.now.pairs rows.now.pages
         → TellsPages rows.now.pages shelf.now.revisions change.now
         → AreLinksAfter rows.now.pages shelf.now.revisions change.now planned) }
 {
-    let fates = fates(alloc, change)?;
+    let fates = fates(alloc, rows, change)?;
     let edit = Edit {
         rows,
         shelf,

@@ -32,7 +32,9 @@ use Rattle.page_copies.proofs.ShownLemmas.{copied_there}
 one_more : {X : Type 0} (xs : List X) (n : ℕ) (x : X) → slice_get xs n ≡ Some x →
     take (suc n) xs ≡ take n xs ++ x ∷ []
 one_more [] n x is = absurd (cc)
-one_more (y ∷ xs) zero x is = (let same : y ≡ x = cc in ap (λ z. z ∷ []) same)
+one_more (y ∷ xs) zero x is =
+    let same : y ≡ x = cc in
+    ap (λ z. z ∷ []) same
 one_more (y ∷ xs) (suc n) x is = ap (λ more. y ∷ more) (one_more xs n x is)
 
 -- one element more between two places

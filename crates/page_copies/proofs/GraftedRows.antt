@@ -184,17 +184,17 @@ one_more before id step slug body kids (grown i s own b k rest) =
     ap (λ n. n + 1) (one_more s id step slug body kids rest)
 
 module _ (tree : Forest Body) (rising : AreRising 0 tree) (apart : AreApart tree)
-    (parent id : ℕ) (slug : List ℕ) (body : Body) (kids : Forest Body) (top : Page)
+    (parent id step : ℕ) (slug : List ℕ) (body : Body) (kids : Forest Body) (top : Page)
     (found : row_with parent (rows_of tree) ≡ Some top)
-    (pairs : EachPair Differ (rows_of (graft parent End (grown id 1 slug body kids bare) tree)))
+    (pairs : EachPair Differ (rows_of (graft parent End (grown id step slug body kids bare) tree)))
     (paths : AllByRecursion (λ (row : Page). IsPath row.path)
-    (rows_of (graft parent End (grown id 1 slug body kids bare) tree)))
+    (rows_of (graft parent End (grown id step slug body kids bare) tree)))
     (untimed : AllByRecursion (λ (row : Page). IsUntimed row.body)
     (rows_below (Some parent) top.path top.url
-    (placed (grown id 1 slug body kids bare) (step_needed End (kids_of parent tree)) bare))) where
+    (placed (grown id step slug body kids bare) (step_needed End (kids_of parent tree)) bare))) where
   -- the page that comes, at its step
   abbrev node : Forest Body
-  node = grown id 1 slug body kids bare
+  node = grown id step slug body kids bare
 
   abbrev at_step : Forest Body
   at_step = placed node (step_needed End (kids_of parent tree)) bare
@@ -226,7 +226,7 @@ module _ (tree : Forest Body) (rising : AreRising 0 tree) (apart : AreApart tree
       let count : with_count (kid_count (put_last 0 node (kids_of parent tree))) b.top
       ≡ with_kid b.top =
       ap (λ n. with_count n b.top)
-      (one_more 0 id 1 slug body kids (kids_of parent tree)
+      (one_more 0 id step slug body kids (kids_of parent tree)
       ∙ ap (λ n. n + 1) (sym b.count_is)) in
       b.graft_is End node
       ∙ rw (

@@ -4,3 +4,5 @@ pub mod ComingPairs
 pub mod ComingRows
 pub mod GraftedRows
 pub mod CopyLemmas
+pub mod CopiedRows
+pub mod CopyGraft

@@ -2,10 +2,14 @@
 use Rattle.std.specs.Prelude.{◌≡◌, ℕ, ◌+◌, ◌≤◌, Bool, true, List, [], ◌∷◌, ◌++◌, length, take, drop, Some, None}
 use Rattle.page_tree.specs.Tree.{Forest, bare, grown, has_page, node_of}
 use Rattle.page_tree.specs.Rows.{row_with, rows_below}
+use Rattle.step_path.specs.Path.{path_text}
 use Rattle.site_types.specs.Content.{ContentValue}
 use Rattle.site_types.specs.declared.body.Body.{Body}
+use Rattle.site_types.specs.declared.page_row.PageRow.{PageRow}
+use Rattle.site_types.specs.declared.revision.Revision.{Revision}
 use Rattle.page_store.specs.Pages.{Page}
 use Rattle.site_model.specs.World.{TreePart}
+use Rattle.site_model.specs.Create.{fresh_body, plain_revision}
 use Rattle.site_model.specs.Copies.{copied_content, to_copy}
 use Rattle.site_model.specs.Sound.{AreBodies}
 use Rattle.page_copies.specs.Contents.{copied_by}
@@ -43,3 +47,31 @@ pub record AreCopied (pages : List Page) (tree : Forest Body) (page : ℕ) (deep
   pub rows_are : take count (drop place pages)
       ≡ top ∷ rows_below (Some page) top.path top.url kids
   pub copied : to_copy deep (node_of page tree) ≡ grown page step top.slug top.body kids bare
+
+-- the row of a copy, with this number among the copies of a caller, where the row of the page at its
+-- new place is this
+abbrev pub copy_row : TreePart → ℕ → ℕ → Page → PageRow × List ℕ
+copy_row part caller number row = (
+  record {
+    id = part.next_page + number;
+    path = path_text row.path;
+    depth = length row.path;
+    numchild = 0;
+    slug = row.slug;
+    body = fresh_body caller (part.next_revision + number);
+  },
+  row.url,
+)
+
+-- the rows of copies, numbered from this one on
+abbrev pub copy_rows : TreePart → ℕ → ℕ → List Page → List (PageRow × List ℕ)
+copy_rows part caller number [] = []
+copy_rows part caller number (row ∷ rows) =
+    copy_row part caller number row ∷ copy_rows part caller (number + 1) rows
+
+-- the revisions of copies with these contents, numbered from this one on
+abbrev pub revisions_of : TreePart → ℕ → ℕ → ℕ → List (ℕ × ContentValue) → List Revision
+revisions_of part caller moment number [] = []
+revisions_of part caller moment number (copied ∷ pages) =
+    plain_revision (part.next_revision + number) (part.next_page + number) caller moment copied.1
+    ∷ revisions_of part caller moment (number + 1) pages

@@ -9,7 +9,8 @@ use Rattle.std.specs.Cmp.Lexicographic.{slice_cmp}
 use Rattle.page_tree.specs.Rows.{comes_before}
 use Rattle.step_path.specs.Path.{BeginsWith}
 use Rattle.page_store.specs.Search.{begins}
-pub use Rattle.page_tree.proofs.OrderLemmas.{comes_before-self, comes_before-trans, comes_before-not_back, comes_before-other}
+pub use Rattle.page_tree.proofs.OrderLemmas.{comes_before-self, comes_before-trans}
+pub use Rattle.page_tree.proofs.OrderLemmas.{comes_before-not_back, comes_before-other}
 
 -- true is true
 true_is : IsTrue true

@@ -12,7 +12,7 @@ use Rattle.site_model.specs.Laws.{FitsCommand}
 use Rattle.site_model.specs.Reached.{IsReached}
 use Rattle.site_model.specs.Step.{is_built, step, step_at}
 use Rattle.site_model.proofs.ReachedSound.{step_keeps_reached}
-use Rattle.grants.proofs.StandingLemmas.{stands_seen, seen_stands, same_seen, same_in_step}
+use Rattle.grants.proofs.StandingLemmas as parts_stand
 use Rattle.grants.specs.declared.fault.Fault.{Fault}
 use Rattle.grants.specs.declared.fault.Fault.TheVariants as faults
 use Rattle.site_core.specs.Standing as cores
@@ -34,10 +34,7 @@ pub same_stands : (before after : Core) (world : World) → cores.IsSame before 
     cores.StandsFor before world → cores.StandsFor after world
 same_stands before after world same stands =
     record {
-      tree = seen_stands after.tree world.part
-          (same_seen before.tree after.tree same.tree
-          ∙ stands_seen before.tree world.part stands.tree)
-          (same_in_step before.tree after.tree same.tree stands.tree.in_step);
+      tree = parts_stand.same_stands before.tree after.tree world.part same.tree stands.tree;
       desks = subst (λ (lists : List (List DeskRow)). AreDesks lists world.desks) (sym same.desks)
           stands.desks;
     }

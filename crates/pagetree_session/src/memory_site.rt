@@ -144,6 +144,7 @@ fn is_built(command: &Command) -> bool
             | Command::SetSlug { .. }
             | Command::Alias { .. }
             | Command::Detach { .. }
+            | Command::Copy { .. }
             | Command::OpenDesk { .. }
             | Command::SaveDesk { .. }
             | Command::ShutDesk { .. }

@@ -18,9 +18,9 @@ use Rattle.link_index.proofs.SetLemmas.{has_without}
 use Rattle.publishing.specs.Times.{body_in, AreLeft}
 use Rattle.publishing.proofs.BodyLemmas.{body_in-with_row, body_in-with_body, body_there, eq_means}
 use Rattle.flat_model.specs.Made.{with_page}
-use Rattle.grants.specs.Standing.{AreAliases}
+use Rattle.link_plans.specs.PageLinks.{AreAliases}
 use Rattle.part_commits.specs.InStep.{without_aliases}
-use Rattle.part_commits.proofs.LeavingLemmas.{ids_of_range}
+use Rattle.link_plans.proofs.GoingLemmas.{ids_of_range}
 
 -- the source of what is kept of a page
 abbrev source_of : Option Body → Option ℕ

@@ -1,26 +1,18 @@
 -- What keeps the tables in step: pages whose fields are still to change do not count, and the
 -- others name the same revisions before a change and after it.
-use Rattle.std.proofs.Common.{◌≡◌, ℕ, Bool, true, false, cond, ◌||◌, nat_eq, List, [], ◌∷◌, ◌++◌, Option, Some, None, IsSome, refl, sym, ap, subst, ◌∙◌, ◌⊎◌, inl, inr, arith}
-use Rattle.std.proofs.lemmas.Bool.Decides.{nat_tests}
-use Rattle.std.specs.List.{AllByRecursion}
+use Rattle.std.proofs.Common.{◌≡◌, ℕ, Bool, true, false, cond, ◌||◌, nat_eq, List, [], ◌∷◌, ◌++◌, Option, Some, None, IsSome, refl, sym, ap, subst, ◌∙◌, ◌⊎◌, inl, inr}
 use Rattle.std.specs.Option.{IfSome, option_map, option_and_then}
-use Rattle.page_tree.specs.Tree.{Forest, bare, grown}
-use Rattle.page_tree.specs.Rows.{Row, rows_below, rows_of, row_with, child_url}
+use Rattle.page_tree.specs.Rows.{rows_of, row_with}
 use Rattle.site_types.specs.declared.body.Body.{Body}
 use Rattle.site_types.specs.declared.revision.Revision.{Revision}
-use Rattle.tree_model.specs.Shape.{AllPages}
-use Rattle.site_model.specs.Sound.{IsBody, IsSoundPart}
 use Rattle.site_model.specs.World as worlds
 use Rattle.page_store.specs.Changes.{with_body}
 use Rattle.page_store.specs.Pages.{Page}
-use Rattle.page_store.proofs.AllLemmas.{All-append}
-use Rattle.page_store.proofs.SeenLemmas.{All-find}
-use Rattle.revision_shelf.specs.Shelf.{revision_with}
 use Rattle.time_table.specs.Table.{moment_in, with_option}
 use Rattle.time_table.specs.declared.times.Times.{Times}
 use Rattle.publishing.specs.Laws.{IsUntimed}
 use Rattle.publishing.specs.Times.{body_in, named, expiry_of, go_live_of, AreTimed}
-use Rattle.publishing.proofs.BodyLemmas.{body_in-with_body, body_there, eq_means}
+use Rattle.publishing.proofs.BodyLemmas.{body_in-with_body, body_there}
 use Rattle.publishing.proofs.LawLemmas.{pages_change}
 use Rattle.publishing.proofs.TimesLemmas.{found_option}
 use Rattle.flat_model.specs.Flat.{lists_of}
@@ -31,7 +23,8 @@ use Rattle.flat_model.proofs.ListLemmas.{quiet_revisions}
 use Rattle.part_commits.specs.InStep.{is_listed, TimedBut, SameMoments, StaysInStep}
 use Rattle.part_commits.specs.Laws.{SoundStepsStay, NothingStays}
 use Rattle.part_commits.proofs.RowBodies.{rows_keep, Comes}
-use Rattle.part_commits.proofs.StayLemmas.{left_of, same_named, own_there, waiting_there}
+use Rattle.part_commits.proofs.NameLemmas.{AllThere, names_there}
+use Rattle.part_commits.proofs.StayLemmas.{left_of, same_named}
 
 -- the tables of rows where each page keeps what is kept of it, or comes without moments
 pub timed_come : (times : Times) (rows after : List Page) (revisions : List Revision) →
@@ -117,69 +110,6 @@ timed_but lists change times timed stays = record {
     by one other agree None same = refl
     by one other agree (Some body) same = agree body same
 
--- what holds of each page holds of its row
-rows_all : (P : ℕ → Body → Type 0) (parent : Option ℕ) (path url : List ℕ) (f : Forest Body) →
-    AllPages (λ id slug body. P id body) f →
-    AllByRecursion (λ (row : Row Body). P row.id row.body) (rows_below parent path url f)
-rows_all P parent path url bare all = tt
-rows_all P parent path url (grown i s slug body kids rest) all = (
-  all.0,
-  All-append _ _ _
-      (rows_all P (Some i) (path ++ s ∷ []) (child_url url slug) kids all.1)
-      (rows_all P parent path url rest all.2),
-)
-
--- The revisions that a page names are there.
-record NamesThere (revisions : List Revision) (body : Body) : Type 0 where
-  pub shown : IfSome body.shown (λ id. IsSome (revision_with id revisions))
-  pub scheduled : IfSome body.scheduled (λ id. IsSome (revision_with id revisions))
-
--- in a sound world they are
-names_there : (part : worlds.TreePart) (page : ℕ) (body : Body) → IsSoundPart part →
-    body_in page (rows_of part.tree) ≡ Some body → NamesThere part.revisions body
-names_there part page body sound found = at (row_with page (rows_of part.tree)) refl found
-  where
-    none_named : (body : Body) → body.shown ≡ None → body.scheduled ≡ None →
-        NamesThere part.revisions body
-    none_named body shown scheduled = record { shown = rw shown tt; scheduled = rw scheduled tt }
-
-    by_source : (id : ℕ) (body : Body) → (id ≡ 1 → ⊥) → (o : Option ℕ) → body.source ≡ o →
-        IsBody part.revisions part.next_user part.next_workflow part.workflows id body →
-        NamesThere part.revisions body
-    by_source id body other None is fits =
-        let own = fits.regular other is in
-        record {
-          shown = own_there part.revisions id body.shown own.shown;
-          scheduled = waiting_there part.revisions id body.scheduled own.scheduled;
-        }
-    by_source id body other (Some source) is fits =
-        let alias = rw is at fits.alias in
-        none_named body alias.shown alias.scheduled
-
-    by : (id : ℕ) (body : Body) (t : Bool) → nat_eq id 1 ≡ t →
-        IsBody part.revisions part.next_user part.next_workflow part.workflows id body →
-        NamesThere part.revisions body
-    by id body true is fits =
-        let root = fits.root (eq_means id 1 is) in
-        none_named body (ap (λ (one : Body). one.shown) root)
-        (ap (λ (one : Body). one.scheduled) root)
-    by id body false is fits =
-        by_source id body (λ (same : id ≡ 1). absurd (grind (arith, nat_tests, same, is)))
-        body.source refl fits
-
-    at : (o : Option Page) → row_with page (rows_of part.tree) ≡ o →
-        option_map (λ (row : Page). row.body) o ≡ Some body → NamesThere part.revisions body
-    at None e is = absurd (cc)
-    at (Some row) e is =
-        let one : row.body ≡ body = cc in
-        subst (NamesThere part.revisions) one
-        (by row.id row.body (nat_eq row.id 1) refl
-        (All-find (λ (row : Page).
-        IsBody part.revisions part.next_user part.next_workflow part.workflows row.id row.body)
-        (λ (row : Page). nat_eq row.id page) (rows_of part.tree) row
-        (rows_all (IsBody part.revisions part.next_user part.next_workflow part.workflows) None []
-        [] part.tree sound.bodies.bodies) e))
-
 -- one of two tests fails where neither passes, and so does the other
 both_fail : (t u : Bool) → (t || u) ≡ false → (t ≡ false) × (u ≡ false)
 both_fail true u is = absurd (cc)
@@ -225,9 +155,9 @@ stays_in_step before after change sound later fits own pages revisions page out 
   where
     there_after : (body : Body) →
         body_in page (rows_made change.tree (rows_of before.tree)) ≡ Some body →
-        NamesThere (made change (lists_of before)).revisions body
+        AllThere (made change (lists_of before)).revisions body
     there_after body is =
-        subst (λ (list : List Revision). NamesThere list body) (sym revisions)
+        subst (λ (list : List Revision). AllThere list body) (sym revisions)
         (names_there after page body later
         (ap (body_in page) (sym pages)
         ∙ (unlisted page change.bodies (rows_made change.tree (rows_of before.tree)) out ∙ is)))

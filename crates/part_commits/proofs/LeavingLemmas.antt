@@ -1,24 +1,16 @@
 -- The pages of a range go, with their moments.
-use Rattle.std.proofs.Common.{◌≡◌, ◌≤◌, ◌+◌, ℕ, Bool, nat_eq, cond, List, [], ◌∷◌, ◌++◌, Option, Some, None, IsSome, length, map, take, drop, refl, sym, ap, ◌∙◌, rules}
-use Rattle.std.specs.List.{list_any}
+use Rattle.std.proofs.Common.{◌≡◌, ◌+◌, ℕ, List, [], ◌∷◌, ◌++◌, Some, IsSome, refl, sym, ap, subst, ◌∙◌}
 use Rattle.std.specs.Option.{IfSome, option_map}
 use Rattle.std.specs.Prelude.{slice_get}
 use Rattle.page_tree.specs.Rows.{row_with}
 use Rattle.page_store.specs.Changes.{without_range}
 use Rattle.page_store.specs.PageRows.{IsRange}
 use Rattle.page_store.specs.Pages.{Page, EachPair, HasOtherId}
-use Rattle.page_store.proofs.AllLemmas.{All-always}
-use Rattle.page_store.proofs.CutLemmas.{any-map}
-use Rattle.tree_rows.proofs.SubtreeLemmas.{range_rows}
 use Rattle.path_moves.proofs.CallLemmas.{ids_more}
 use Rattle.time_table.specs.Table.{without}
-use Rattle.publishing.specs.Times.{without_all, body_in, AreLeft}
-use Rattle.flat_model.specs.Made.{subtree}
-use Rattle.part_commits.proofs.RowBodies.{left_kept}
-
--- the ids of so many pages from a place on
-abbrev pub ids_of_range : List Page → ℕ → ℕ → List ℕ
-ids_of_range pages place n = map (λ row. row.id) (take n (drop place pages))
+use Rattle.publishing.specs.Times.{without_all, AreLeft}
+use Rattle.link_plans.proofs.GoingLemmas.{ids_of_range, range_gone}
+use Rattle.part_commits.proofs.ToldLemmas.{left_gone}
 
 -- one page more is taken out after the others
 one_more : (ids : List ℕ) (page : ℕ) (entries : List (ℕ × ℕ)) →
@@ -39,35 +31,10 @@ one_out pages place n page first now later at before step =
     (ids_more pages place n page (ids_of_range pages place n)
     (ids_of_range pages place n ++ page ∷ []) refl at refl)))
 
-module _ (id : ℕ) (rows : List Page) (place n : ℕ) (there : IsSome (row_with id rows)) where
-  -- the range of a page is within the rows
-  pub range_within : IfSome (row_with id rows) (λ row. IsRange rows row place n) →
-      place + n ≤ length rows
-  range_within range = by (row_with id rows) there range
-    where
-      by : (o : Option Page) → IsSome o → IfSome o (λ row. IsRange rows row place n) →
-          place + n ≤ length rows
-      by None some range = absurd (search (rules, some))
-      by (Some top) some range = range.within
-
-  -- the pages that are left without a page and all below it
-  pub range_left : EachPair HasOtherId rows →
-      IfSome (row_with id rows) (λ row. IsRange rows row place n) →
-      AreLeft (ids_of_range rows place n) rows (without_range id rows)
-  range_left own range page = by (row_with id rows) refl there range
-    where
-      by : (o : Option Page) → row_with id rows ≡ o → IsSome o →
-          IfSome o (λ row. IsRange rows row place n) →
-          body_in page (without_range id rows)
-          ≡ cond (list_any (λ one. nat_eq one page) (ids_of_range rows place n)) None
-          (body_in page rows)
-      by None found some range = absurd (search (rules, some))
-      by (Some top) found some range =
-          left_kept page id top rows found own
-          ∙ ap (λ (t : Bool). cond t None (body_in page rows))
-          (sym (ap (λ (list : List Page). list_any (λ one. nat_eq one page)
-          (map (λ row. row.id) list)) (sym (range_rows rows top place n range))
-          ∙ any-map (λ (one : ℕ). nat_eq one page) (λ (row : Page). row.id)
-          (λ (row : Page). nat_eq row.id page) (subtree top.path rows)
-          (All-always (λ (row : Page). nat_eq row.id page ≡ nat_eq row.id page) (λ row. refl)
-          (subtree top.path rows))))
+-- the pages that are left without a page and all below it
+pub range_left : (id : ℕ) (rows : List Page) (place n : ℕ) → IsSome (row_with id rows) →
+    EachPair HasOtherId rows → IfSome (row_with id rows) (λ row. IsRange rows row place n) →
+    AreLeft (ids_of_range rows place n) rows (without_range id rows)
+range_left id rows place n there own range =
+    subst (λ (ids : List ℕ). AreLeft ids rows (without_range id rows))
+    (sym (range_gone id rows place n there range)) (left_gone id rows there own)

@@ -7,3 +7,6 @@ pub mod LeavingLemmas
 pub mod AliasLemmas
 pub mod StayLemmas
 pub mod InStepLemmas
+pub mod NameLemmas
+pub mod ToldLemmas
+pub mod LinkLemmas

@@ -66,7 +66,7 @@ body_in-changed id change ids bodies page rows =
     same_body row false = refl
 
 -- what is found in two parts where the first has nothing
-or_none : {X : Type 0} (o : Option X) → option_or o None ≡ o
+pub or_none : {X : Type 0} (o : Option X) → option_or o None ≡ o
 or_none None = refl
 or_none (Some x) = refl
 

@@ -11,6 +11,7 @@ use Rattle.flat_model.specs.Made.{made}
 use Rattle.flat_model.specs.Single.{tree_change}
 use Rattle.flat_model.specs.declared.change.Change.{Change}
 use Rattle.flat_model.specs.declared.change.TreeChange.TheVariants.{Nothing}
+use Rattle.link_plans.specs.Told.{TellsPages}
 use Rattle.part_commits.specs.InStep.{StaysInStep}
 
 -- a change that leads from a sound world to another leaves each page that it does not touch its
@@ -28,3 +29,12 @@ abbrev pub NothingStays : Type 0
 NothingStays =
     (lists : PartLists) (time next_page next_revision : ℕ) →
     StaysInStep lists (tree_change Nothing time next_page next_revision)
+
+-- a change that leads from a sound world to another tells all of the pages after it
+abbrev pub SoundStepsTell : Type 0
+SoundStepsTell =
+    (before after : worlds.TreePart) (change : Change) → IsSoundPart before → IsSoundPart after →
+    Fits (lists_of before) change → EachPair HasOtherId (rows_of before.tree) →
+    (made change (lists_of before)).pages ≡ rows_of after.tree →
+    (made change (lists_of before)).revisions ≡ after.revisions →
+    TellsPages (rows_of before.tree) before.revisions change

@@ -2,7 +2,7 @@
 ghost use Rattle.std.specs.Prelude.{◌≡◌, ◌≤◌, length};
 ghost use Rattle.flat_model.specs.Fits.{BodiesFit};
 ghost use Rattle.flat_model.specs.Made.{with_bodies};
-ghost use Rattle.grants.specs.Standing.{AreAliases};
+ghost use Rattle.link_plans.specs.PageLinks.{AreAliases};
 ghost use Rattle.publishing.specs.Times.{AreTimed};
 ghost use Rattle.part_commits.specs.InStep.{TimedBut};
 

@@ -3,7 +3,7 @@ ghost use Rattle.std.specs.Prelude.{◌≡◌, ◌+◌, ◌≤◌, IsSome, List,
 ghost use Rattle.page_tree.specs.Rows.{row_with};
 ghost use Rattle.page_store.specs.Changes.{without_range};
 ghost use Rattle.publishing.specs.Times.{without_all, AreTimed};
-ghost use Rattle.grants.specs.Standing.{AreAliases};
+ghost use Rattle.link_plans.specs.PageLinks.{AreAliases};
 ghost use Rattle.part_commits.specs.InStep.{without_aliases};
 ghost use Rattle.site_types.specs.declared.revision.Revision.{Revision as PageRevision};
 

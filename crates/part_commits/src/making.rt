@@ -27,6 +27,7 @@ pub(crate) fn make(part: &mut TreePart, change: Change)
     requires stays { CanStayInStep part.old (seen part.old) change }
     ensures made { seen part.new ≡ made change (seen part.old) }
     ensures desks { part.new.desk_pairs ≡ part.old.desk_pairs }
+    ensures links { part.new.links ≡ part.old.links }
     ensures in_step { InStep part.new }
 {
     let Change {

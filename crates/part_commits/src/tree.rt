@@ -3,7 +3,7 @@ ghost use Rattle.std.specs.Prelude.{◌≡◌, ◌+◌, ◌≤◌, List, length}
 ghost use Rattle.flat_model.specs.Fits.{PagesFit, TreeFits};
 ghost use Rattle.flat_model.specs.Made.{rows_made, with_page, with_pages};
 ghost use Rattle.grants.specs.Plans.{rows_needed};
-ghost use Rattle.grants.specs.Standing.{AreAliases};
+ghost use Rattle.link_plans.specs.PageLinks.{AreAliases};
 ghost use Rattle.part_commits.specs.InStep.{rows_coming};
 ghost use Rattle.page_store.specs.PageRows.{IsNewRow};
 ghost use Rattle.publishing.specs.Times.{AreTimed};

@@ -7,7 +7,7 @@ use Rattle.site_model.specs.Step.{is_built, saving}
 use Rattle.site_core.specs.Groups.{group_of}
 use Rattle.site_core.specs.declared.group.Group.TheVariants as groups
 use Rattle.flow_edits.specs.Asked.{is_flow}
-use Rattle.tree_edits.specs.Plans.{is_on_tree}
+use Rattle.tree_edits.specs.OnTree.{is_on_tree}
 
 -- a command that is prepared with those that are not built is not built
 pub later_unbuilt : (command : Command) → group_of command ≡ groups.Later →
@@ -18,6 +18,7 @@ later_unbuilt (commands.Delete page) is = absurd (cc)
 later_unbuilt (commands.SetSlug page slug) is = absurd (cc)
 later_unbuilt (commands.Alias source parent slug) is = absurd (cc)
 later_unbuilt (commands.Detach page) is = absurd (cc)
+later_unbuilt (commands.Copy page parent slug deep) is = absurd (cc)
 later_unbuilt (commands.SaveDesk page content) is = absurd (cc)
 later_unbuilt (commands.OpenDesk page) is = absurd (cc)
 later_unbuilt (commands.ShutDesk page) is = absurd (cc)
@@ -44,6 +45,7 @@ tree_grouped (commands.Delete page) is = refl
 tree_grouped (commands.SetSlug page slug) is = refl
 tree_grouped (commands.Alias source parent slug) is = refl
 tree_grouped (commands.Detach page) is = refl
+tree_grouped (commands.Copy page parent slug deep) is = refl
 tree_grouped _ is = absurd (cc)
 
 -- a command that is prepared with those on drafts, publishing and people is one of them

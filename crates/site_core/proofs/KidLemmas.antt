@@ -1,20 +1,18 @@
 -- The live kids of a page, found by their ids, are those whose rows are.
-use Rattle.std.proofs.Common.{◌≡◌, ◌<◌, ◌≤◌, ◌+◌, ◌-◌, ℕ, suc, Bool, true, false, cond, ◌&&◌, List, [], ◌∷◌, ◌++◌, length, length-append, append_assoc, map, take, filter, Option, Some, None, refl, sym, ap, ◌∙◌, arith}
+use Rattle.std.proofs.Common.{◌≡◌, ◌-◌, ℕ, Bool, true, false, cond, ◌&&◌, List, [], ◌∷◌, map, take, filter, Some, refl, ap, ◌∙◌}
 use Rattle.std.specs.List.{AllByRecursion}
-use Rattle.std.proofs.lemmas.List.{take-map, append-nil}
-use Rattle.std.proofs.Math.Seq.{take-nil}
+use Rattle.std.proofs.lemmas.List.{take-map}
 use Rattle.page_tree.specs.Tree.{Forest}
-use Rattle.page_tree.specs.Rows.{Row, rows_of, is_parent, kids_in, row_with}
+use Rattle.page_tree.specs.Rows.{rows_of, is_parent, kids_in, row_with}
 use Rattle.page_store.specs.Pages.{Page, ArePages}
 use Rattle.page_store.proofs.SeenLemmas.{found_by_own_id}
-use Rattle.public_view.specs.declared.kid.LiveKid.{LiveKid}
 use Rattle.public_view.specs.declared.kid.TheConstants.{MAX_KIDS}
 use Rattle.site_types.specs.declared.body.Body.{Body}
 use Rattle.site_types.specs.declared.revision.Revision.{Revision}
 use Rattle.site_model.specs.Views.{is_live}
 use Rattle.site_model.specs.World.{World}
 use Rattle.sight_model.specs.Cards.{kid_from, kids_shown}
-use Rattle.site_core.specs.Kids.{told_of, with_told, kids_told}
+use Rattle.site_core.specs.Kids.{kids_told}
 
 module _ (tree : Forest Body) (revisions : List Revision) (pages : List Page) (page : ℕ) where
   -- whether a row is that of a live kid
@@ -62,48 +60,3 @@ shown_first world pages revisions page are is same =
     (filter (λ (row : Page). is_parent page row.parent && is_live world.part.tree row.body) pages))) same
     ∙ ap (λ rows. map (kid_from world.part.tree world.part.revisions) (take MAX_KIDS
     (filter (λ (row : Page). is_parent page row.parent && is_live world.part.tree row.body) rows))) is)
-
--- What is said of the kids so far, and of the others that there is room for, is what is said of the
--- first kids.
-pub record AreFirst (few : ℕ) (so_far : List LiveKid) (left all : List LiveKid) : Type 0 where
-  pub within : length so_far ≤ few
-  pub are : so_far ++ take (few - length so_far) left ≡ take few all
-
--- none is told so far
-pub first_none : (few : ℕ) (all : List LiveKid) → AreFirst few [] all all
-first_none few all = record {
-  within = omega arith;
-  are =
-      let all_left : few - 0 ≡ few = omega arith in
-      ap (λ n. take n all) all_left;
-}
-
--- so many are told that there is room for no more
-pub first_full : (few : ℕ) (so_far left all : List LiveKid) → AreFirst few so_far left all →
-    few ≤ length so_far → so_far ≡ take few all
-first_full few so_far left all first full =
-    let none : few - length so_far ≡ 0 = omega arith in
-    sym (append-nil so_far)
-    ∙ (ap (λ n. so_far ++ take n left) (sym none) ∙ first.are)
-
--- no kid is left
-pub first_all : (few : ℕ) (so_far left all : List LiveKid) → AreFirst few so_far left all →
-    left ≡ [] → so_far ≡ take few all
-first_all few so_far left all first none =
-    sym (append-nil so_far)
-    ∙ (ap (λ list. so_far ++ list) (sym (take-nil (few - length so_far)))
-    ∙ (ap (λ list. so_far ++ take (few - length so_far) list) (sym none) ∙ first.are))
-
--- one more is told
-pub first_more : (few : ℕ) (so_far left all : List LiveKid) (kid : LiveKid) →
-    length so_far < few → AreFirst few so_far (kid ∷ left) all →
-    AreFirst few (so_far ++ kid ∷ []) left all
-first_more few so_far left all kid room first =
-    record {
-      within = let more = length-append so_far (kid ∷ []) in omega (arith, more, room);
-      are =
-          let one : few - length so_far ≡ suc (few - length (so_far ++ kid ∷ [])) =
-          let more = length-append so_far (kid ∷ []) in omega (arith, more, room) in
-          append_assoc so_far (kid ∷ []) (take (few - length (so_far ++ kid ∷ [])) left)
-          ∙ (ap (λ n. so_far ++ take n (kid ∷ left)) (sym one) ∙ first.are);
-    }

@@ -2,7 +2,6 @@ pub mod CardLemmas
 pub mod LookUpLemmas
 pub mod FindLemmas
 pub mod KidLemmas
-pub mod RefLemmas
 pub mod GroupLemmas
 pub mod PartLemmas
 pub mod KeptLemmas
@@ -10,3 +9,5 @@ pub mod StepDesks
 pub mod StartStep
 pub mod RoomLemmas
 pub mod PrepareLemmas
+pub mod FirstLemmas
+pub mod LinkRoom

@@ -29,24 +29,26 @@ use Rattle.site_model.specs.Step.{saving, saved, step_by, step_at, with_desks}
 use Rattle.site_model.proofs.LosingSteps.{ended_are}
 use Rattle.site_model.proofs.OwnText.{own_text_fits}
 use Rattle.flat_model.specs.Flat.{lists_of}
-use Rattle.flat_model.specs.Lists.{PartLists}
 use Rattle.flat_model.proofs.ListLemmas.{lists_are, none_out, quiet_revisions, quiet_people}
 use Rattle.grants.specs.declared.fault.Fault.{Fault}
 use Rattle.grants.specs.declared.fault.Fault.TheVariants.{Refused, Memory}
-use Rattle.grants.specs.declared.part.TreePart.{TreePart}
 use Rattle.grants.specs.declared.plan.Plan.{Plan}
 use Rattle.grants.specs.Plans as parts
 use Rattle.grants.specs.Plans.{DeskFits, desk_of, pages_of, left_by}
 use Rattle.grants.specs.Standing as parts_stand
 use Rattle.grants.proofs.StandingLemmas.{same_ready}
 use Rattle.part_commits.specs.InStep.{CanStayInStep}
+use Rattle.part_commits.specs.Links.{CanPutLinks}
 use Rattle.part_commits.proofs.InStepLemmas.{nothing_stays}
 use Rattle.site_core.specs.Standing.{IsReady, IsSame, HasDeskRoom, HasPlan, Prepares, PlansSaving, kept_text, saving_plan}
 use Rattle.site_core.specs.Texts.{row_of, desk_on, kept_on, OpensWell, desk_left}
 use Rattle.part_commits.specs.Ending.{TellsPlan}
 use Rattle.part_commits.specs.declared.done.Done.{Done as DoneTold}
 use Rattle.site_core.specs.declared.state.Core.{Core}
+use Rattle.site_core.proofs.LinkRoom.{quiet_links}
 use Rattle.site_core.proofs.StepDesks.{TellsDesks, none_on, apart_in, left_is, saved_is}
+use Rattle.flat_model.specs.Lists.{PartLists}
+use Rattle.grants.specs.declared.part.TreePart.{TreePart}
 
 -- what holds of each page's id holds of the id of a page that is there
 given_of : (G : ℕ → Type 0) (j : ℕ) (f : Forest Body) → AllPages (λ id slug body. G id) f →
@@ -195,7 +197,8 @@ module _ (core : Core) (world : World) (ready : IsReady core world) where
         (has : parts.HasPlan after.tree world.part
         (own_text world.desks caller (desk_page command)) now caller command plan)
         (room : HasDeskRoom after.desks plan.opened)
-        (stays : CanStayInStep after.tree (lists_of world.part) plan.change) where
+        (stays : CanStayInStep after.tree (lists_of world.part) plan.change)
+        (links : CanPutLinks after.tree plan) where
       -- a desk is opened on a page without one
       free : (opened : Option Desk) →
           DeskFits (option_map desk_of opened) world.part.desk_pairs →
@@ -279,6 +282,7 @@ module _ (core : Core) (world : World) (ready : IsReady core world) where
         pages = shut_ids;
         room = has.can.room;
         in_step = stays;
+        links = links;
         leads = has.can.right.leads;
         opens = opens plan.opened has.can.right.fits.opened room;
         desks_are = desk_is;
@@ -288,24 +292,26 @@ module _ (core : Core) (world : World) (ready : IsReady core world) where
     pub prepares : (result : Result Plan Fault) →
         IfOk result (λ plan. HasDeskRoom after.desks plan.opened) →
         IfOk result (λ plan. CanStayInStep after.tree (lists_of world.part) plan.change) →
+        IfOk result (CanPutLinks after.tree) →
         parts.Prepares world.part (kept_text core.desks caller (desk_page command)) now caller
         command after.tree result →
         Prepares world now caller command after result
-    prepares result room stays told =
-        by result room stays
+    prepares result room stays links told =
+        by result room stays links
         (subst (λ text. parts.Prepares world.part text now caller command after.tree result)
         (own_is caller (desk_page command)) told)
       where
         by : (result : Result Plan Fault) →
             IfOk result (λ plan. HasDeskRoom after.desks plan.opened) →
             IfOk result (λ plan. CanStayInStep after.tree (lists_of world.part) plan.change) →
+            IfOk result (CanPutLinks after.tree) →
             parts.Prepares world.part (own_text world.desks caller (desk_page command)) now caller
             command after.tree result →
             Prepares world now caller command after result
-        by (Ok plan) room stays has = has_plan plan has room stays
-        by (Err (Refused refusal)) room stays is =
+        by (Ok plan) room stays links has = has_plan plan has room stays links
+        by (Err (Refused refusal)) room stays links is =
             saves_nothing world now caller command none ∙ ap (with_desks world.desks) is
-        by (Err Memory) room stays is = tt
+        by (Err Memory) room stays links is = tt
 
   module _ (now caller page : ℕ) (content : ContentValue) where
     -- the plan of a text that is saved
@@ -350,6 +356,7 @@ module _ (core : Core) (world : World) (ready : IsReady core world) where
         stays = nothing_stays (lists_of world.part) core.tree.time core.tree.next_page
             core.tree.next_revision;
       };
+      links = quiet_links core.tree (saving_plan core.tree page caller content) refl refl;
       leads = leads;
       opens = tt;
       desks_are = λ at.

@@ -1,6 +1,6 @@
--- A plan with room for what is found fast, and that what its change does not touch stays in step.
-use Rattle.std.proofs.Common.{◌≡◌, ℕ, Option, sym, ap, subst, ◌∙◌}
-use Rattle.page_tree.specs.Rows.{rows_of}
+-- A plan beside other room for what is found fast, and that what its change does not touch stays in
+-- step.
+use Rattle.std.proofs.Common.{◌≡◌, ℕ, List, Option, sym, ap, subst, ◌∙◌}
 use Rattle.site_ids.specs.Moment.{IsMoment}
 use Rattle.site_types.specs.Content.{ContentValue}
 use Rattle.site_types.specs.declared.command.Command.{Command}
@@ -12,45 +12,96 @@ use Rattle.page_store.specs.Pages.{ArePages}
 use Rattle.flat_model.specs.Flat.{lists_of}
 use Rattle.flat_model.specs.Lists.{PartLists}
 use Rattle.grants.specs.Plans.{HasPlan, HasRoom}
-use Rattle.grants.specs.Standing.{IsSame, IsReady}
+use Rattle.time_table.specs.declared.times.Times.{Times}
+use Rattle.link_index.specs.Pairs.{PairList}
+use Rattle.grants.specs.Standing.{SameIndexes, IsSame, IsReady}
 use Rattle.grants.specs.declared.part.TreePart.{TreePart}
 use Rattle.grants.specs.declared.plan.Plan.{Plan}
-use Rattle.grants.proofs.StandingLemmas.{same_ready}
+use Rattle.grants.proofs.StandingLemmas.{same_ready, same_both}
 use Rattle.part_commits.specs.InStep.{HasOtherRoom, HasIndexRoom, CanStayInStep}
 use Rattle.part_commits.proofs.InStepLemmas.{stays_in_step}
+use Rattle.site_core.specs.Linking.{HasLinkRoom}
 
--- with other room for what is found fast all is the same
-pub room_same : (before after : TreePart) → HasOtherRoom before after → IsSame before after
-room_same before after room = record {
-  pages = ap (λ (kept : TreePart). kept.rows.pages) room.is;
-  revisions = ap (λ (kept : TreePart). kept.shelf.revisions) room.is;
+-- Two parts differ by what is found fast alone, and in it by room alone.
+pub record AreAlike (before after : TreePart) : Type 0 where
+  pub is : after
+      ≡ record before { times = after.times; aliases = after.aliases; links = after.links }
+  pub indexes : SameIndexes before after
+
+-- where they do all is the same
+pub alike_same : (before after : TreePart) → AreAlike before after → IsSame before after
+alike_same before after alike = record {
+  pages = ap (λ (kept : TreePart). kept.rows.pages) alike.is;
+  revisions = ap (λ (kept : TreePart). kept.shelf.revisions) alike.is;
   lists = record {
-    users = ap (λ (kept : TreePart). kept.grants.users) room.is;
-    groups = ap (λ (kept : TreePart). kept.grants.groups) room.is;
-    members = ap (λ (kept : TreePart). kept.grants.members) room.is;
-    grants = ap (λ (kept : TreePart). kept.grants.grants) room.is;
+    users = ap (λ (kept : TreePart). kept.grants.users) alike.is;
+    groups = ap (λ (kept : TreePart). kept.grants.groups) alike.is;
+    members = ap (λ (kept : TreePart). kept.grants.members) alike.is;
+    grants = ap (λ (kept : TreePart). kept.grants.grants) alike.is;
   };
-  desks = ap (λ (kept : TreePart). kept.desk_pairs.pairs) room.is;
-  time = ap (λ (kept : TreePart). kept.time) room.is;
-  next_page = ap (λ (kept : TreePart). kept.next_page) room.is;
-  next_revision = ap (λ (kept : TreePart). kept.next_revision) room.is;
-  indexes = record {
-    expiries = room.expiries;
-    go_lives = room.go_lives;
-    aliases = room.aliases;
-  };
+  desks = ap (λ (kept : TreePart). kept.desk_pairs.pairs) alike.is;
+  time = ap (λ (kept : TreePart). kept.time) alike.is;
+  next_page = ap (λ (kept : TreePart). kept.next_page) alike.is;
+  next_revision = ap (λ (kept : TreePart). kept.next_revision) alike.is;
+  indexes = alike.indexes;
 }
+
+-- they do with other room in the tables and among the aliases
+pub room_alike : (before after : TreePart) → HasOtherRoom before after → AreAlike before after
+room_alike before after room =
+    let links = ap (λ (kept : TreePart). kept.links) room.is in
+    record {
+      is = room.is
+          ∙ ap (λ (links : PairList).
+          record before { times = after.times; aliases = after.aliases; links = links })
+          (sym links);
+      indexes = record {
+        expiries = room.expiries;
+        go_lives = room.go_lives;
+        aliases = room.aliases;
+        links = ap (λ (links : PairList). links.pairs) links;
+      };
+    }
+
+-- and with other room for links
+pub links_alike : (before after : TreePart) → HasLinkRoom before after → AreAlike before after
+links_alike before after room =
+    let times = ap (λ (kept : TreePart). kept.times) room.is in
+    let aliases = ap (λ (kept : TreePart). kept.aliases) room.is in
+    record {
+      is = room.is
+          ∙ (ap (λ (times : Times). record before { times = times; links = after.links }) (sym times)
+          ∙ ap (λ (aliases : PairList).
+          record before { times = after.times; aliases = aliases; links = after.links })
+          (sym aliases));
+      indexes = record {
+        expiries = ap (λ (times : Times). times.expiries.entries) times;
+        go_lives = ap (λ (times : Times). times.go_lives.entries) times;
+        aliases = ap (λ (aliases : PairList). aliases.pairs) aliases;
+        links = room.links;
+      };
+    }
+
+-- all stays the same where first a plan is found, then room is made, and then links are found
+pub same_throughout : (first found roomy linked : TreePart) → IsSame first found →
+    HasOtherRoom found roomy → HasLinkRoom roomy linked → IsSame first linked
+same_throughout first found roomy linked same room links =
+    same_both first found linked same
+    (same_both found roomy linked (alike_same found roomy (room_alike found roomy room))
+    (alike_same roomy linked (links_alike roomy linked links)))
 
 module _ (part : worlds.TreePart) (desk : Option ContentValue) (now caller : ℕ) (command : Command)
     (plan : Plan) where
-  -- a plan is one with that room
-  pub plan_with_room : (before after : TreePart) → HasOtherRoom before after →
+  -- a plan is one beside what differs by room alone, and with other links
+  pub plan_alike : (before after : TreePart) (links : List (ℕ × List ℕ)) → AreAlike before after →
       HasPlan before part desk now caller command plan →
-      HasPlan after part desk now caller command plan
-  plan_with_room before after room has =
+      HasPlan after part desk now caller command (record plan { links = links })
+  plan_alike before after links alike has =
+      let right = has.can.right in
       let taken = has.can.room in
       let with_room :
-      HasRoom (record before { times = after.times; aliases = after.aliases }) plan =
+      HasRoom (record before { times = after.times; aliases = after.aliases; links = after.links })
+      (record plan { links = links }) =
       record {
         rows = taken.rows;
         revisions = taken.revisions;
@@ -61,9 +112,17 @@ module _ (part : worlds.TreePart) (desk : Option ContentValue) (now caller : ℕ
         after = has.after;
         effect = has.effect;
         can = record {
-          ready = same_ready before after part (room_same before after room) has.can.ready;
-          right = has.can.right;
-          room = subst (λ kept. HasRoom kept plan) (sym room.is) with_room;
+          ready = same_ready before after part (alike_same before after alike) has.can.ready;
+          right = record {
+            step = right.step;
+            reply = right.reply;
+            opened = right.opened;
+            shut = right.shut;
+            no_text = right.no_text;
+            fits = record { change = right.fits.change; opened = right.fits.opened };
+            leads = right.leads;
+          };
+          room = subst (λ kept. HasRoom kept (record plan { links = links })) (sym alike.is) with_room;
         };
       }
 

@@ -1,4 +1,4 @@
--- At the start all is in step: there are no moments and no aliases.
+-- At the start all is in step: there are no moments, no aliases and no links.
 use Rattle.std.proofs.Common.{◌≡◌, ℕ, Bool, true, false, cond, nat_eq, List, [], ◌∷◌, Option, Some, None, refl, sym, subst}
 use Rattle.std.specs.Option.{IfSome, option_map, option_and_then}
 use Rattle.site_types.specs.declared.body.Body.{Body}
@@ -9,7 +9,8 @@ use Rattle.site_types.specs.RootBody.{root_body}
 use Rattle.publishing.specs.Laws.{IsUntimed}
 use Rattle.publishing.specs.Times.{body_in}
 use Rattle.publishing.proofs.LawLemmas.{tables_start}
-use Rattle.grants.specs.Standing.{InStep, source_in}
+use Rattle.link_plans.specs.PageLinks.{source_in, finds_in, kept_links}
+use Rattle.grants.specs.Standing.{InStep, IsLinked}
 use Rattle.grants.specs.declared.part.TreePart.{TreePart}
 use Rattle.part_commits.proofs.AliasLemmas.{no_aliases}
 
@@ -57,3 +58,13 @@ start_in_step kept pages expiries go_lives aliases = record {
       (λ page. subst (λ (rows : List Page). source_in page rows ≡ None) (sym pages)
       (root_plain page));
 }
+
+-- without links so is the root
+pub start_linked : (kept : TreePart) → kept.rows.pages ≡ root_rows → kept.links.pairs ≡ [] →
+    IsLinked kept
+start_linked kept pages pairs linked page = rw (pages, pairs) (by (nat_eq 1 page))
+  where
+    by : (t : Bool) →
+        false ≡ kept_links (finds_in root_rows kept.shelf.revisions) (kept_of_root t) linked
+    by true = refl
+    by false = refl

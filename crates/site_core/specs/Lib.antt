@@ -2,5 +2,5 @@ pub mod Finding
 pub mod Groups
 pub mod Kids
 pub mod Texts
-pub mod References
+pub mod Linking
 pub mod Standing

@@ -22,6 +22,7 @@ use Rattle.grants.specs.declared.plan.Plan.{Plan}
 use Rattle.grants.specs.Plans.{PlanFits, HasRoom, left_by, quiet_plan}
 use Rattle.grants.specs.Standing as parts_stand
 use Rattle.part_commits.specs.InStep.{CanStayInStep}
+use Rattle.part_commits.specs.Links.{CanPutLinks}
 use Rattle.site_core.specs.Texts.{DeskLists, kept_on, row_of, desk_on, room_for, AreDesks, OpensWell, desk_left}
 use Rattle.site_core.specs.declared.state.Core.{Core}
 
@@ -80,6 +81,7 @@ pub record HasPlan (core : Core) (world : World) (now caller : ℕ) (command : C
   pub pages : AllByRecursion IsPageId plan.shut
   pub room : HasRoom core.tree plan
   pub in_step : CanStayInStep core.tree (lists_of world.part) plan.change
+  pub links : CanPutLinks core.tree plan
   pub leads : left_by plan (lists_of world.part) ≡ lists_of after.part
   -- so can the open desks, page by page
   pub opens : OpensWell core.desks plan.opened

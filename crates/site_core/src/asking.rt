@@ -10,6 +10,7 @@ ghost use Rattle.grants.specs.Standing as parts_stand;
 ghost use Rattle.grants.specs.Plans as parts;
 ghost use Rattle.flat_model.specs.Flat.{lists_of};
 ghost use Rattle.part_commits.specs.InStep.{CanStayInStep};
+ghost use Rattle.part_commits.specs.Links.{CanPutLinks};
 ghost use Rattle.site_core.specs.Standing.{HasDeskRoom, PlansSaving, kept_text};
 
 use crate::desk_parts::DeskParts;
@@ -39,6 +40,10 @@ pub(crate) fn prepare_step(
         → FitsCommand command.now
         → FitsDesk world caller (desk_page command.now) (kept_text desks.old caller (desk_page command.now))
         → IfOk result (λ plan. CanStayInStep tree.new (lists_of world) plan.change) }
+    ensures links { (world : worlds.TreePart) → parts_stand.IsReady tree.old world
+        → FitsCommand command.now
+        → FitsDesk world caller (desk_page command.now) (kept_text desks.old caller (desk_page command.now))
+        → IfOk result (CanPutLinks tree.new) }
     ensures plan { (world : worlds.TreePart) → parts_stand.IsReady tree.old world
         → FitsCommand command.now
         → FitsDesk world caller (desk_page command.now) (kept_text desks.old caller (desk_page command.now))

@@ -27,7 +27,8 @@ pub(crate) fn group_of(command: &Command) -> Group
         | Command::Delete { .. }
         | Command::SetSlug { .. }
         | Command::Alias { .. }
-        | Command::Detach { .. } => Group::Tree,
+        | Command::Detach { .. }
+        | Command::Copy { .. } => Group::Tree,
         Command::OpenDesk { .. }
         | Command::ShutDesk { .. }
         | Command::File { .. }
@@ -43,8 +44,7 @@ pub(crate) fn group_of(command: &Command) -> Group
         | Command::Grant { .. }
         | Command::Tick => Group::Flow,
         Command::SaveDesk { .. } => Group::Save,
-        Command::Copy { .. }
-        | Command::DefineTask { .. }
+        Command::DefineTask { .. }
         | Command::DefineWorkflow { .. }
         | Command::Assign { .. }
         | Command::Submit { .. }

@@ -7,6 +7,7 @@ mod desk_parts;
 mod finding;
 mod group;
 mod kids;
+mod linking;
 mod part;
 mod references;
 mod showing;

@@ -10,10 +10,12 @@ ghost use Rattle.flat_model.specs.Flat.{lists_of};
 ghost use Rattle.grants.specs.Standing.{IsReady, IsSame};
 ghost use Rattle.grants.specs.Plans.{Prepares};
 ghost use Rattle.part_commits.specs.InStep.{CanStayInStep};
+ghost use Rattle.part_commits.specs.Links.{CanPutLinks};
 ghost use Rattle.site_core.specs.Groups.{group_of};
 ghost use Rattle.site_core.specs.declared.group.Group.TheVariants as groups;
 
 use crate::group::{Group, group_of};
+use crate::linking::find_links;
 use flow_edits::prepare_flow;
 use grants::{Fault, Plan, TreePart, front};
 use part_commits::make_room;
@@ -22,12 +24,12 @@ use std::alloc::Global;
 use tree_edits::prepare_tree;
 
 /// The plan of a command by a user at a moment, with room for all that it changes, or why it is
-/// refused: the first of its rules that refuses it, in the order of their numbers, or want of
+/// refused: the first of its rules that refuses it, in the order of their numbers, or out of
 /// memory. It changes nothing but spare room. `desk` is the text of the user's own desk on the page
 /// that the command looks at. A text is saved by the whole site alone.
 ///
-/// It costs what the command's rules and the memory for it cost. A command that is not built and
-/// that no rule refuses is refused as one that would change nothing.
+/// It costs what the command's rules, the memory for it and `plan_links` cost. A command that is not
+/// built and that no rule refuses is refused as one that would change nothing.
 pub fn prepare(
     alloc: Global,
     part: &mut TreePart,
@@ -46,13 +48,22 @@ pub fn prepare(
     ensures in_step { (world : worlds.TreePart) → IsReady part.old world → FitsCommand command.now
         → FitsDesk world caller (desk_page command.now) (option_copied desk.entry)
         → IfOk result (λ plan. CanStayInStep part.new (lists_of world) plan.change) }
+    ensures links { (world : worlds.TreePart) → IsReady part.old world → FitsCommand command.now
+        → FitsDesk world caller (desk_page command.now) (option_copied desk.entry)
+        → IfOk result (CanPutLinks part.new) }
 {
     let _seconds = now.get();
     let _len = part.rows.len();
     match find_plan(alloc, part, command, caller, now, desk) {
         Err(fault) => Err(fault),
-        Ok(plan) => match make_room(part, &plan.change) {
-            Ok(()) => Ok(plan),
+        Ok(mut plan) => match make_room(part, &plan.change) {
+            Ok(()) => match find_links(alloc, part, &plan.change) {
+                Ok(links) => {
+                    plan.links = links;
+                    Ok(plan)
+                }
+                Err(_) => Err(Fault::Memory),
+            },
             Err(_) => Err(Fault::Memory),
         },
     }

@@ -17,12 +17,12 @@ ghost use Rattle.site_core.specs.Standing.{StandsFor, IsReady, IsSame, Prepares,
 use crate::asking::{plan_saving, prepare_step};
 use crate::desk_parts::DeskParts;
 use crate::finding::find_live;
-use crate::references::refs_in;
+use crate::references::first_refs;
 use crate::showing::{card_in, shown_in};
 use crate::texts::put_texts;
 use desk_pairs::DeskPairs;
 use grants::{Fault, Grants, Plan, TreePart};
-use link_index::Aliases;
+use link_index::{Aliases, LinkIndex};
 use page_store::Rows;
 use part_commits::{Done, commit};
 use public_view::Card;
@@ -62,13 +62,14 @@ impl Core {
                 next_revision: 1,
                 times: Times::new(alloc),
                 aliases: Aliases::new(alloc),
+                links: LinkIndex::new(alloc),
             },
             desks,
         })
     }
 
     /// The plan of a command by a user at a moment, or why it is refused: the first of its rules that
-    /// refuses it, in the order of their numbers, or want of memory. It changes nothing but spare
+    /// refuses it, in the order of their numbers, or out of memory. It changes nothing but spare
     /// room.
     ///
     /// It costs what the command's rules and the memory for it cost. A text is saved exactly if the
@@ -97,7 +98,7 @@ impl Core {
     ///
     /// It costs a few look-ups for each page that comes, goes or changes, for each page that gets
     /// another path or URL, and for each revision that comes or goes, and a few searches for each desk
-    /// that is opened, saved or ends.
+    /// that is opened, saved or ends; and as much as `put_links` for the pages that get other links.
     pub fn commit(&mut self, plan: Plan) -> Reply
         requires { (world : World) × (now : ℕ) × (caller : ℕ) × (command : AnyCommand)
             × HasPlan self.old world now caller command plan }
@@ -150,12 +151,17 @@ impl Core {
 
     /// The first 1,000 pages that link to a page, rising, or `None` exactly if there is no such page.
     ///
-    /// It costs at most six look-ups for each page, and looks at each block of their newest contents.
+    /// It costs a look-up, two searches and a look at each page that it answers.
     pub fn refs(&self, alloc: Global, id: PageId) -> Result<Option<Ids>, NoMemory>
         ensures { (world : World) → IsReady self.now world
             → IfOk result (λ refs. refs ≡ refs_shown world id) }
     {
-        refs_in(alloc, &self.tree.rows, &self.tree.shelf, id)
+        let _len = self.tree.rows.len();
+        let Some(_) = self.tree.rows.row(id) else {
+            return Ok(None);
+        };
+        let refs = first_refs(alloc, &self.tree.links, id)?;
+        Ok(Some(refs))
     }
 
     /// The URL of a page, or `None` exactly where there is no such page. One look-up.

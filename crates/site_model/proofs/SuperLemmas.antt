@@ -7,7 +7,7 @@ use Rattle.site_ids.specs.declared.ids.TheConstants.{LAST_USER_ID, LAST_GROUP_ID
 use Rattle.site_types.specs.Content.{ContentValue}
 use Rattle.site_types.specs.declared.body.Body.{Body}
 use Rattle.site_types.specs.declared.command.Command.{Command}
-use Rattle.site_types.specs.declared.command.Command.TheVariants.{Create, Move, Delete, SetSlug, Alias, Detach, OpenDesk, SaveDesk, ShutDesk, File, Publish, Unpublish, Unschedule, Lock, Unlock, Purge, DefineUser, DefineGroup, Member, Grant, Tick}
+use Rattle.site_types.specs.declared.command.Command.TheVariants.{Create, Move, Delete, SetSlug, Alias, Detach, Copy, OpenDesk, SaveDesk, ShutDesk, File, Publish, Unpublish, Unschedule, Lock, Unlock, Purge, DefineUser, DefineGroup, Member, Grant, Tick}
 use Rattle.site_types.specs.declared.permission.Permission.{Permission}
 use Rattle.site_types.specs.declared.refusal.NameKind.TheVariants as kinds
 use Rattle.site_types.specs.declared.refusal.Refusal.{Refusal}
@@ -26,6 +26,7 @@ use Rattle.site_model.specs.Slugs.{slug_rules}
 use Rattle.site_model.specs.Users.{is_membership, is_grant, agree, grants_after, user_rules, group_rules, member_rules, grant_rules}
 use Rattle.site_model.specs.Bodies.{latest_of}
 use Rattle.site_model.specs.Aliases.{alias_rules, detach_rules}
+use Rattle.site_model.specs.Copies.{copy_rules}
 use Rattle.site_model.specs.Delete.{delete_rules}
 use Rattle.site_model.specs.Ticks.{due_at, is_idle, tick_rules}
 use Rattle.site_model.specs.Publishing.{publish_rules, unpublish_rules, unschedule_rules, lock_rules, unlock_rules, purge_rules}
@@ -33,7 +34,7 @@ use Rattle.site_model.specs.Desks.{desk_page, no_desk, open_rules, file_rules, s
 use Rattle.site_model.specs.Step.{is_built, rules, refusal_of, unless_refused, step_by}
 use Rattle.site_model.specs.Step as steps
 use Rattle.site_model.proofs.DenialLemmas.{is_denied, first_says, test_says, all_say, ids_say, new_says, desk_says, open_says, file_says, publish_says, unpublish_says, unscheduling_says, locking_says, unlocking_says, purge_says}
-use Rattle.site_model.proofs.PageDenials.{create_says, move_says, slug_says, delete_says, aliasing_says, detach_says}
+use Rattle.site_model.proofs.PageDenials.{create_says, move_says, slug_says, delete_says, aliasing_says, detach_says, copy_says}
 
 -- nor pages that are named
 pages_say : (tree : Forest Body) (ids : List ℕ) → is_denied (no_pages tree ids) ≡ false
@@ -175,6 +176,9 @@ own_says part desk now caller (Alias source parent slug) =
     (aliasing_says part now caller source parent slug) refl
 own_says part desk now caller (Detach page) =
     first_says (detach_rules part now caller page) [] (detach_says part now caller page) refl
+own_says part desk now caller (Copy page parent slug deep) =
+    first_says (copy_rules part now caller page parent slug deep) []
+    (copy_says part now caller page parent slug deep) refl
 own_says part desk now caller (Unschedule page) =
     first_says (unschedule_rules part page) [] (unscheduling_says part page) refl
 own_says part desk now caller Tick =

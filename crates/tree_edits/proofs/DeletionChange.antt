@@ -24,7 +24,7 @@ use Rattle.tree_model.proofs.SiblingLemmas.{all_append}
 use Rattle.site_model.specs.World as worlds
 use Rattle.site_model.specs.Delete.{aliases_left, detached_revisions, deleted_at_once}
 use Rattle.site_model.specs.Sound.{IsGiven, IsSoundPart}
-use Rattle.tree_edits.specs.Plans.{IsSoundTree}
+use Rattle.new_pages.specs.Plans.{IsSoundTree}
 use Rattle.flat_model.specs.Fits.{Fits, BodiesFit, RevisionsFit}
 use Rattle.flat_model.specs.Flat.{people_of, lists_of}
 use Rattle.flat_model.specs.Made.{of_others, people_left, with_bodies}
@@ -34,7 +34,7 @@ use Rattle.flat_model.specs.declared.change.TreeChange.TheVariants as trees
 use Rattle.flat_model.proofs.ListLemmas.{people_are, lists_are}
 use Rattle.grants.specs.Plans.{pages_of, pairs_left, quiet_plan, left_by}
 use Rattle.grants.specs.declared.plan.Plan.{Plan}
-use Rattle.tree_edits.proofs.EndingSteps.{left_open}
+use Rattle.new_pages.proofs.EndingSteps.{left_open}
 use Rattle.tree_edits.specs.Leaving.{AreDetached, detached_pairs}
 use Rattle.tree_edits.specs.declared.leaving.LeftAliases.{LeftAliases}
 use Rattle.tree_edits.proofs.LeavingRows.{bodies_made, new_fit, aliases_once, left_once, aliases_keep}
@@ -67,7 +67,7 @@ cut_left None rest top is = lower_none rest
 cut_left (Some parent) rest top is = lower_some parent rest
 
 -- an id is among those of pages exactly where one has it
-listed_is : (id : ℕ) (f : Forest Body) → list_any (λ i. nat_eq i id) (ids_of f) ≡ has_page id f
+pub listed_is : (id : ℕ) (f : Forest Body) → list_any (λ i. nat_eq i id) (ids_of f) ≡ has_page id f
 listed_is id bare = refl
 listed_is id (grown i s slug body kids rest) =
     ap (λ t. nat_eq i id || t)
@@ -90,6 +90,13 @@ ids_are next (grown i s slug body kids rest) last all = (
   all_append IsPageId (ids_of kids) (ids_of rest) (ids_are next kids last all.1)
       (ids_are next rest last all.2),
 )
+
+-- the ids of the pages that go are ids of pages
+pub gone_ids : (part : worlds.TreePart) (page : ℕ) → IsSoundTree part →
+    AllByRecursion IsPageId (ids_of (node_of page part.tree))
+gone_ids part page sound =
+    ids_are part.next_page (node_of page part.tree) sound.next_page.1
+    (AllPages-node_of (λ id slug body. IsGiven part.next_page id) page part.tree sound.page_ids)
 
 -- what a deletion changes, where aliases become regular pages
 abbrev pub deletion_change : ℕ → List ℕ → LeftAliases → ℕ → ℕ → ℕ → Change
@@ -160,10 +167,7 @@ module _ (part : worlds.TreePart) (now caller page : ℕ) (sound : IsSoundPart p
       tree = (sym (has_page-rows page None [] [] part.tree) ∙ there, below);
       bodies = subst (λ ones. BodiesFit ones (without_range page (rows_of part.tree)))
           (sym detached.bodies) (subst (BodiesFit pairs) (sym cut) made.0);
-      gone = subst (AllByRecursion IsPageId) (sym gone_is)
-          (ids_are part.next_page (node_of page part.tree) sound.pages.next_page.1
-          (AllPages-node_of (λ id slug body. IsGiven part.next_page id) page part.tree
-          sound.pages.page_ids));
+      gone = subst (AllByRecursion IsPageId) (sym gone_is) (gone_ids part page sound.pages);
       revisions = subst (λ ones. RevisionsFit ones part.revisions) (sym detached.revisions)
           (new_fit part moment caller aliases part.next_revision part.revisions
           sound.revisions.revision_ids);

@@ -27,10 +27,10 @@ use Rattle.grants.specs.declared.part.TreePart.{TreePart as KeptPart}
 use Rattle.grants.proofs.StandingLemmas.{same_ready}
 use Rattle.tree_edits.specs.Leaving.{AreDetached}
 use Rattle.tree_edits.specs.declared.leaving.LeftAliases.{LeftAliases}
-use Rattle.tree_edits.specs.Plans.{IsAsked, IsSoundTree}
+use Rattle.new_pages.specs.Plans.{IsAsked, IsSoundTree}
 use Rattle.tree_edits.proofs.DeletionChange.{deletion_plan, deletion_fits, deletion_leads}
-use Rattle.tree_edits.proofs.CommandLemmas.{delete_names, delete_own, delete_done, delete_desk}
-use Rattle.tree_edits.proofs.EndingSteps.{ending, left_open, ends_step}
+use Rattle.new_pages.proofs.CommandLemmas.{delete_names, delete_own, delete_done, delete_desk}
+use Rattle.new_pages.proofs.EndingSteps.{ending, left_open, ends_step}
 
 -- each id of some pages is below what each page's id is below
 ids_below : (n : ℕ) (f : Forest Body) → AllPages (λ id slug body. IsGiven n id) f →

@@ -30,19 +30,20 @@ use Rattle.flat_model.specs.declared.change.Change.{Change}
 use Rattle.grants.specs.Plans.{HasPlan, quiet_plan, left_by}
 use Rattle.grants.specs.Standing.{IsSame}
 use Rattle.grants.proofs.LiveLemmas.{body_missing}
-use Rattle.page_copies.proofs.ShownLemmas.{kept_there, same_body, shown_there}
+use Rattle.flat_model.proofs.KeptPages.{kept_there, same_body}
+use Rattle.page_copies.proofs.ShownLemmas.{shown_there}
 use Rattle.grants.specs.declared.part.TreePart.{TreePart}
 use Rattle.grants.specs.declared.plan.Plan.{Plan}
 use Rattle.tree_edits.specs.Detaching.{regular_body, detaching_plan}
 use Rattle.tree_edits.specs.Leaving.{body_at, IsAliasHere, IsDetachedAt}
 use Rattle.tree_edits.specs.declared.detaching.Detached.{Detached}
-use Rattle.tree_edits.specs.Plans.{IsAsked}
-use Rattle.tree_edits.proofs.CommandLemmas.{detach_names, detach_own, detach_done, detach_desk, detach_quiet}
-use Rattle.tree_edits.proofs.CreationLemmas.{one_comes}
-use Rattle.tree_edits.proofs.CreationRules.{one_longer}
-use Rattle.tree_edits.proofs.EndingSteps.{left_open}
-use Rattle.tree_edits.proofs.LookUpLemmas.{row_there}
-use Rattle.tree_edits.proofs.QuietPlans.{IsQuiet, quiet_planned}
+use Rattle.new_pages.specs.Plans.{IsAsked}
+use Rattle.new_pages.proofs.CommandLemmas.{detach_names, detach_own, detach_done, detach_desk, detach_quiet}
+use Rattle.new_pages.proofs.CreationLemmas.{one_comes}
+use Rattle.new_pages.proofs.CreationRules.{one_longer}
+use Rattle.new_pages.proofs.EndingSteps.{left_open}
+use Rattle.new_pages.proofs.LookUpLemmas.{row_there}
+use Rattle.new_pages.proofs.QuietPlans.{IsQuiet, quiet_planned}
 
 module _ (part : worlds.TreePart) (now caller page : ℕ) (body : Body)
     (found : body_of part.tree page ≡ Some body) where

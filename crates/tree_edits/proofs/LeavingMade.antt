@@ -11,6 +11,7 @@ use Rattle.site_model.specs.Create.{plain_revision}
 use Rattle.site_model.specs.Delete.{detached_revisions}
 use Rattle.site_model.specs.Limits.{MAX_CONTENTS, contents_length}
 use Rattle.site_model.proofs.ContentLemmas.{contents_length-append}
+use Rattle.new_pages.proofs.WeightLemmas.{one_taken, front_shorter}
 use Rattle.tree_edits.specs.Leaving.{body_at, detached_pairs}
 
 -- one alias more at the end
@@ -44,54 +45,6 @@ revisions_more part moment caller first alias (one ∷ aliases) =
     ∙ ap (λ n. detached_revisions part moment caller (first + 1) aliases
     ++ plain_revision n alias caller moment (shown_content part alias) ∷ []) same)
 
--- one item more at the front
-pub one_taken : {X : Type 0} (xs : List X) (n : ℕ) (x : X) → slice_get xs n ≡ Some x →
-    take (n + 1) xs ≡ take n xs ++ x ∷ []
-one_taken [] n x is = absurd (cc)
-one_taken (y ∷ xs) zero x is =
-    (let same : y ≡ x = cc in ap (λ z. z ∷ []) same)
-one_taken (y ∷ xs) (suc n) x is =
-    let next : (suc n) + 1 ≡ suc (n + 1) = omega arith in
-    rw next (ap (λ more. y ∷ more) (one_taken xs n x is))
-
--- what is left of some room beside contents, with one revision more
-pub left_more : (revisions : List Revision) (done left room : ℕ) (revision : Revision) →
-    slice_get revisions done ≡ Some revision →
-    left + contents_length (take done revisions) ≡ room → (form : ℕ) →
-    form ≡ length (content_form revision.content) → form ≤ left →
-    (left - form) + contents_length (take (done + 1) revisions) ≡ room
-left_more revisions done left room revision at sum form form_is fits =
-    let next = one_taken revisions done revision at in
-    let both : contents_length (take (done + 1) revisions)
-    ≡ contents_length (take done revisions) + contents_length (revision ∷ []) =
-    ap contents_length next ∙ contents_length-append (take done revisions) (revision ∷ []) in
-    omega (arith, both, sum, form_is, fits)
-
--- the first contents take no more than all
-front_shorter : (revisions : List Revision) (n : ℕ) →
-    contents_length (take n revisions) ≤ contents_length revisions
-front_shorter [] zero = omega arith
-front_shorter [] (suc n) = omega arith
-front_shorter (revision ∷ revisions) zero = omega arith
-front_shorter (revision ∷ revisions) (suc n) =
-    let more = front_shorter revisions n in omega (arith, more)
-
--- contents that take more than is left take more than there is room
-pub left_over : (revisions : List Revision) (done left room : ℕ) (revision : Revision) →
-    slice_get revisions done ≡ Some revision →
-    left + contents_length (take done revisions) ≡ room → (form : ℕ) →
-    form ≡ length (content_form revision.content) → left < form →
-    nat_lt room (contents_length revisions) ≡ true
-left_over revisions done left room revision at sum form form_is over =
-    let next = one_taken revisions done revision at in
-    let both : contents_length (take (done + 1) revisions)
-    ≡ contents_length (take done revisions) + contents_length (revision ∷ []) =
-    ap contents_length next ∙ contents_length-append (take done revisions) (revision ∷ []) in
-    let most = front_shorter revisions (done + 1) in
-    let more : room < contents_length revisions =
-    omega (arith, both, sum, form_is, over, most) in
-    grind (arith, nat_tests)
-
 -- an item more passes the test or not
 filter_more : (test : Revision → Bool) (xs : List Revision) (x : Revision) →
     filter test (xs ++ x ∷ []) ≡ filter test xs ++ cond (test x) (x ∷ []) []
@@ -115,6 +68,36 @@ passing_shorter test (x ∷ xs) = by (test x) (passing_shorter test xs)
         contents_length (cond t (x ∷ filter test xs) (filter test xs)) ≤ contents_length (x ∷ xs)
     by true more = omega (arith, more)
     by false more = omega (arith, more)
+
+-- what has room beside all contents has room beside those that pass a test
+pub room_beside_all : (test : Revision → Bool) (revisions new : List Revision) (weight : ℕ) →
+    weight ≡ contents_length revisions → weight ≤ MAX_CONTENTS →
+    nat_lt (MAX_CONTENTS - weight) (contents_length new) ≡ false →
+    false ≡ nat_lt MAX_CONTENTS (contents_length (filter test revisions) + contents_length new)
+room_beside_all test revisions new weight weight_is fits room =
+    let less = passing_shorter test revisions in
+    let most : contents_length new ≤ MAX_CONTENTS - weight = grind (arith, nat_tests) in
+    let all : contents_length (filter test revisions) + contents_length new ≤ MAX_CONTENTS =
+    omega (arith, weight_is, fits, less, most) in
+    grind (arith, nat_tests)
+
+-- what is more than the room beside some contents is more than all may take with them
+pub room_beside : (kept room new : ℕ) → room + kept ≡ MAX_CONTENTS →
+    nat_lt room new ≡ nat_lt MAX_CONTENTS (kept + new)
+room_beside kept room new sum = by (nat_lt room new) refl (nat_lt MAX_CONTENTS (kept + new)) refl
+  where
+    by : (t : Bool) → nat_lt room new ≡ t → (u : Bool) →
+        nat_lt MAX_CONTENTS (kept + new) ≡ u → t ≡ u
+    by true e true f = refl
+    by false e false f = refl
+    by true e false f =
+        let over : room < new = grind (arith, nat_tests) in
+        let under : kept + new ≤ MAX_CONTENTS = grind (arith, nat_tests) in
+        let no : ⊥ = omega (arith, over, under, sum) in absurd no
+    by false e true f =
+        let under : new ≤ room = grind (arith, nat_tests) in
+        let over : MAX_CONTENTS < kept + new = grind (arith, nat_tests) in
+        let no : ⊥ = omega (arith, over, under, sum) in absurd no
 
 module _ (test : Revision → Bool) (revisions : List Revision) (done room : ℕ)
     (revision : Revision) (at : slice_get revisions done ≡ Some revision)

@@ -40,7 +40,7 @@ module _ (part : worlds.TreePart) (now caller page : ℕ) (sound : IsSoundPart p
   aliases = aliases_left part page
 
   -- the revisions that stay, and those that come
-  abbrev kept : List Revision
+  abbrev pub kept : List Revision
   kept = filter (λ (revision : Revision). not (has_page revision.page (node_of page part.tree)))
       part.revisions
 
@@ -63,8 +63,7 @@ module _ (part : worlds.TreePart) (now caller page : ℕ) (sound : IsSoundPart p
       let past_last : LAST_REVISION_ID + 1 < after.next_revision = omega (arith, over, next_is) in
       rw (past (LAST_REVISION_ID + 1) after.next_revision IdsFull past_last) refl
 
-  module _ (fits : part.next_revision + length aliases ≤ LAST_REVISION_ID + 1) (room : ℕ)
-      (room_is : room + contents_length kept ≡ MAX_CONTENTS) where
+  module _ (fits : part.next_revision + length aliases ≤ LAST_REVISION_ID + 1) where
     -- there are enough
     rest_is : delete_rules part now caller page ≡ first_of (content_full after.revisions ∷ [])
     rest_is =
@@ -76,21 +75,23 @@ module _ (part : worlds.TreePart) (now caller page : ℕ) (sound : IsSoundPart p
     sum_is = ap contents_length revisions_are ∙ contents_length-append kept new
 
     -- no room is left
-    pub deletion_full : nat_lt room (contents_length new) ≡ true →
+    pub deletion_full : nat_lt MAX_CONTENTS (contents_length kept + contents_length new) ≡ true →
         delete_rules part now caller page ≡ Some ContentFull
     deletion_full over =
-        let more : room < contents_length new = grind (arith, nat_tests) in
+        let more : MAX_CONTENTS < contents_length kept + contents_length new =
+        grind (arith, nat_tests) in
         let past_all : MAX_CONTENTS < contents_length after.revisions =
-        omega (arith, more, room_is, sum_is) in
+        omega (arith, more, sum_is) in
         rest_is ∙ rw (past_room after.revisions past_all) refl
 
     -- nothing is in the way
-    pub deletion_clear : nat_lt room (contents_length new) ≡ false →
+    pub deletion_clear : nat_lt MAX_CONTENTS (contents_length kept + contents_length new) ≡ false →
         delete_rules part now caller page ≡ None
     deletion_clear under =
-        let less : contents_length new ≤ room = grind (arith, nat_tests) in
+        let less : contents_length kept + contents_length new ≤ MAX_CONTENTS =
+        grind (arith, nat_tests) in
         let all_fit : contents_length after.revisions ≤ MAX_CONTENTS =
-        omega (arith, less, room_is, sum_is) in
+        omega (arith, less, sum_is) in
         rest_is ∙ rw (within_room after.revisions all_fit) refl
 
   -- a deletion that no rule refuses has enough ids

@@ -15,7 +15,7 @@ use Rattle.page_store.specs.Relabelling.{AreListed}
 use Rattle.page_store.proofs.AllLemmas.{All-map, All-weaker}
 use Rattle.page_store.proofs.SeenLemmas.{found_by_own_id}
 use Rattle.path_moves.proofs.ApplyAfter.{distinct_rows}
-use Rattle.tree_edits.proofs.ReplyLemmas.{own_ids_of}
+use Rattle.new_pages.proofs.ReplyLemmas.{own_ids_of}
 use Rattle.tree_edits.proofs.SlugTree.{distinct-renamed}
 
 -- what holds of each row holds of each of some

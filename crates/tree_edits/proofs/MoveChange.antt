@@ -26,7 +26,7 @@ use Rattle.flat_model.specs.Made.{with_move}
 use Rattle.flat_model.proofs.MoveRows.{HasRange, range_of_page, found_id, with_move_is, first_is, remaining_from}
 use Rattle.tree_edits.proofs.ListedUrls.{changed_listed}
 use Rattle.tree_edits.proofs.MovePlans.{outside_in}
-use Rattle.tree_edits.proofs.ReplyLemmas.{own_ids_of}
+use Rattle.new_pages.proofs.ReplyLemmas.{own_ids_of}
 
 -- pages that were there have rows
 rows_there : (before : Forest Body) (parent : Option ℕ) (path url : List ℕ) (f : Forest Body) →

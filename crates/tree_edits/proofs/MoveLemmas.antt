@@ -37,13 +37,13 @@ use Rattle.grants.specs.declared.plan.Plan.{Plan}
 use Rattle.grants.specs.Standing.{IsSame}
 use Rattle.grants.specs.declared.part.TreePart.{TreePart}
 use Rattle.grants.proofs.StandingLemmas.{same_ready}
-use Rattle.tree_edits.specs.Moving.{there_rules, IsNamed, IsMovePlan, told_reply}
-use Rattle.tree_edits.specs.Plans.{IsAsked, IsSoundTree}
-use Rattle.tree_edits.proofs.CommandLemmas.{move_names, move_own, move_done, move_desk}
-use Rattle.tree_edits.proofs.EndingSteps.{ending, left_open, no_desk_fits, ends_step}
+use Rattle.new_pages.specs.Moving.{there_rules, IsNamed, IsMovePlan, told_reply}
+use Rattle.new_pages.specs.Plans.{IsAsked, IsSoundTree}
+use Rattle.new_pages.proofs.CommandLemmas.{move_names, move_own, move_done, move_desk}
+use Rattle.new_pages.proofs.EndingSteps.{ending, left_open, no_desk_fits, ends_step}
 use Rattle.tree_edits.proofs.MoveChange.{IsMove, move_fits, move_leads}
 use Rattle.tree_edits.proofs.MovePlans.{Found, found_of, movable_is}
-use Rattle.tree_edits.proofs.ReplyLemmas.{own_ids_of, told_path_is, told_reply_is}
+use Rattle.new_pages.proofs.ReplyLemmas.{own_ids_of, told_path_is, told_reply_is}
 
 -- what refuses where a test holds is not told where it does not refuse
 test_out : (test : Bool) (refusal : Refusal) (other : Option Refusal) →

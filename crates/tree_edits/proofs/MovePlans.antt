@@ -34,15 +34,15 @@ use Rattle.site_types.specs.declared.refusal.Refusal.TheVariants.{IntoItself, No
 use Rattle.site_model.specs.World.{TreePart}
 use Rattle.site_model.specs.Moves.{effect_refusal}
 use Rattle.site_model.specs.Rules.{first_of}
-use Rattle.tree_edits.specs.Plans.{PlansBy, IsSoundTree}
+use Rattle.new_pages.specs.Plans.{PlansBy, IsSoundTree}
 use Rattle.site_model.proofs.MoveSound.{no_zero}
 use Rattle.site_model.proofs.RowLemmas.{rows_too_deep}
 use Rattle.grants.specs.declared.fault.Fault.TheVariants.{Refused}
-use Rattle.tree_edits.specs.Faults.{both_of}
-use Rattle.tree_edits.specs.Moving.{there_rules, taken_by, IsNamed, IsAway, IsMovePlan}
-use Rattle.tree_edits.proofs.LookUpLemmas.{row_there}
-use Rattle.tree_edits.proofs.StepRows.{any_past, graft_past}
-use Rattle.tree_edits.proofs.MoveRefusals.{refused_stays, refused_late, refused_itself, planned_both, none_long}
+use Rattle.new_pages.specs.Faults.{both_of}
+use Rattle.new_pages.specs.Moving.{there_rules, taken_by, IsNamed, IsAway, IsMovePlan}
+use Rattle.new_pages.proofs.LookUpLemmas.{row_there}
+use Rattle.new_pages.proofs.StepRows.{any_past, graft_past}
+use Rattle.new_pages.proofs.MoveRefusals.{refused_stays, refused_late, refused_itself, planned_both, none_long}
 
 -- What a move that is asked for finds in the tree.
 pub record Found (tree : Forest Body) (page target : ℕ) (position : Position) : Type 0 where

@@ -14,7 +14,7 @@ use Rattle.page_store.specs.Pages.{Page, ArePages}
 use Rattle.page_store.specs.Search.{begins}
 use Rattle.page_store.proofs.SlugLemmas.{parent_there}
 use Rattle.site_model.specs.World.{TreePart}
-use Rattle.tree_edits.specs.Plans.{IsSoundTree}
+use Rattle.new_pages.specs.Plans.{IsSoundTree}
 use Rattle.site_types.specs.declared.refusal.Refusal.TheVariants.{NothingNew}
 use Rattle.site_model.specs.Slugs.{slug_rules}
 use Rattle.tree_edits.proofs.ParentLemmas.{IsUnder, parent_row}

@@ -30,14 +30,14 @@ use Rattle.grants.specs.Plans.{HasPlan, quiet_plan, left_by}
 use Rattle.grants.specs.Standing.{IsSame}
 use Rattle.grants.specs.declared.part.TreePart.{TreePart}
 use Rattle.grants.proofs.StandingLemmas.{same_ready}
-use Rattle.tree_edits.specs.Moving.{told_reply}
+use Rattle.new_pages.specs.Moving.{told_reply}
 use Rattle.tree_edits.specs.Naming.{IsBelow, AreNewUrls}
-use Rattle.tree_edits.specs.Plans.{IsAsked, IsSoundTree, IsBelowRoot}
-use Rattle.tree_edits.proofs.CommandLemmas.{slug_names, slug_own, slug_done, slug_desk, slug_quiet}
-use Rattle.tree_edits.proofs.EndingSteps.{ending, left_open, no_desk_fits, quiet_step}
+use Rattle.new_pages.specs.Plans.{IsAsked, IsSoundTree, IsBelowRoot}
+use Rattle.new_pages.proofs.CommandLemmas.{slug_names, slug_own, slug_done, slug_desk, slug_quiet}
+use Rattle.new_pages.proofs.EndingSteps.{ending, left_open, no_desk_fits, quiet_step}
 use Rattle.tree_edits.proofs.ListedUrls.{slug_listed}
-use Rattle.tree_edits.proofs.LookUpLemmas.{row_there}
-use Rattle.tree_edits.proofs.ReplyLemmas.{told_reply_is}
+use Rattle.new_pages.proofs.LookUpLemmas.{row_there}
+use Rattle.new_pages.proofs.ReplyLemmas.{told_reply_is}
 use Rattle.tree_edits.proofs.SlugChange.{may_have}
 use Rattle.tree_edits.proofs.SlugTree.{slug_rows, later_row}
 

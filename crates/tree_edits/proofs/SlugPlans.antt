@@ -16,12 +16,12 @@ use Rattle.slug_urls.specs.Plans.{new_urls, is_one_long, unless_taken, planned_u
 use Rattle.slug_urls.proofs.LawLemmas.{renaming_is, long_is_new}
 use Rattle.site_model.specs.World.{TreePart}
 use Rattle.site_model.specs.Rules.{first_of, refused_if}
-use Rattle.tree_edits.specs.Plans.{PlansBy, IsSoundTree}
+use Rattle.new_pages.specs.Plans.{PlansBy, IsSoundTree}
 use Rattle.grants.specs.declared.fault.Fault.{Fault}
-use Rattle.tree_edits.specs.Faults.{of_url}
+use Rattle.new_pages.specs.Faults.{of_url}
 use Rattle.site_model.specs.Slugs.{slug_rules}
 use Rattle.tree_edits.specs.Naming.{AreNewUrls}
-use Rattle.tree_edits.proofs.MoveRefusals.{none_long}
+use Rattle.new_pages.proofs.MoveRefusals.{none_long}
 
 -- What is known of a page that may get another slug, as far as its siblings and the URLs go.
 pub record IsSought (part : TreePart) (page : ℕ) (slug : List ℕ) (row : Page) (parent : ℕ) :

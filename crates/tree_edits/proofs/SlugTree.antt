@@ -18,7 +18,7 @@ use Rattle.page_store.proofs.AllLemmas.{All-always}
 use Rattle.page_store.proofs.ChangeLemmas.{after, find-changed}
 use Rattle.path_moves.proofs.ApplyChanges.{urls_complete}
 use Rattle.slug_urls.proofs.Renaming.{renamed_absent}
-use Rattle.tree_edits.proofs.ReplyLemmas.{own_ids_of}
+use Rattle.new_pages.proofs.ReplyLemmas.{own_ids_of}
 
 -- another slug leaves as many kids
 kid_count-renamed : (id : ℕ) (new : List ℕ) (f : Forest Body) → kid_count (renamed id new f) ≡

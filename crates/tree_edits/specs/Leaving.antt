@@ -1,6 +1,6 @@
 -- What is planned of the aliases that a deletion leaves without their source.
-use Rattle.std.specs.Prelude.{◌≡◌, ℕ, ◌+◌, List, [], ◌∷◌, Some, unwrap_or}
-use Rattle.page_tree.specs.Tree.{Forest}
+use Rattle.std.specs.Prelude.{◌≡◌, ℕ, ◌+◌, not, List, [], ◌∷◌, filter, Some, unwrap_or}
+use Rattle.page_tree.specs.Tree.{Forest, has_page}
 use Rattle.site_types.specs.RootBody.{root_body}
 use Rattle.site_types.specs.declared.body.Body.{Body}
 use Rattle.site_model.specs.World as worlds
@@ -10,6 +10,10 @@ use Rattle.site_model.specs.Delete.{detached_revisions}
 use Rattle.site_model.specs.Views.{body_of}
 use Rattle.tree_edits.specs.declared.detaching.Detached.{Detached}
 use Rattle.tree_edits.specs.declared.leaving.LeftAliases.{LeftAliases}
+
+-- those of these pages that stay as others go
+abbrev pub staying : Forest Body → List ℕ → List ℕ
+staying gone pages = filter (λ page. not (has_page page gone)) pages
 
 -- what is kept of a page, where it is there
 abbrev pub body_at : Forest Body → ℕ → Body

@@ -1,8 +1,4 @@
-pub mod Faults
-pub mod Plans
-pub mod Making
-pub mod Aliasing
+pub mod OnTree
 pub mod Detaching
 pub mod Leaving
-pub mod Moving
 pub mod Naming

@@ -5,7 +5,7 @@ use Rattle.page_tree.specs.Rows.{Row, rows_of}
 use Rattle.site_types.specs.declared.body.Body.{Body}
 use Rattle.tree_model.specs.Changes.{changed_urls}
 use Rattle.tree_model.specs.Renames.{renamed}
-use Rattle.tree_edits.specs.Plans.{IsSoundTree, IsBelowRoot}
+use Rattle.new_pages.specs.Plans.{IsSoundTree, IsBelowRoot}
 use Rattle.site_model.specs.World as worlds
 
 -- Another slug is to be planned in the rows of a sound world, for a page that is there and below

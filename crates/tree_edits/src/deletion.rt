@@ -5,13 +5,12 @@ ghost use Rattle.site_types.specs.declared.command.Command.TheVariants as comman
 ghost use Rattle.site_model.specs.World as worlds;
 ghost use Rattle.grants.specs.Plans.{Prepares};
 ghost use Rattle.grants.specs.Standing.{IsSame};
-ghost use Rattle.tree_edits.specs.Plans.{IsAsked};
+ghost use Rattle.new_pages.specs.Plans.{IsAsked};
 
 use crate::leaving::{LeftAliases, plan_leaving};
-use crate::room::make_room;
-use crate::telling::later;
 use grants::{Change, Fault, Plan, TreeChange, TreePart};
 use lost_desks::lost_by_deletion;
+use new_pages::{later, make_room};
 use path_moves::plan_delete;
 use site_types::{Moment, PageId, Reply, UserId};
 use std::alloc::Global;
@@ -20,8 +19,10 @@ use std::alloc::Global;
 /// desks on the page and below it end, and its aliases elsewhere, and those of pages below it,
 /// become regular pages.
 ///
-/// It costs a look at each page and at each revision of the site, and for each open desk a look-up
-/// for each page above it; for each alias a copy of the content that it shows.
+/// It costs a look and two searches for each page that goes, and for each open desk a look-up for
+/// each page above it; for each alias that is left a copy of the content that it shows. Only where
+/// the contents of these have no room beside all that there are, it costs a look at each revision of
+/// the site.
 pub(crate) fn plan_deletion(
     alloc: Global,
     part: &mut TreePart,
@@ -36,12 +37,12 @@ pub(crate) fn plan_deletion(
         → Prepares world desk now caller (commands.Delete page) part.new result }
 {
     let _len = part.rows.len();
-    let left = match plan_leaving(alloc, part, page, caller, now) {
-        Ok(left) => left,
-        Err(fault) => return Err(fault),
-    };
     let Ok(gone) = plan_delete(alloc, &part.rows, page) else {
         return Err(Fault::Memory);
+    };
+    let left = match plan_leaving(alloc, part, page, &gone, caller, now) {
+        Ok(left) => left,
+        Err(fault) => return Err(fault),
     };
     let Ok(shut) = lost_by_deletion(alloc, part, page) else {
         return Err(Fault::Memory);

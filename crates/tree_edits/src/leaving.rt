@@ -1,31 +1,29 @@
 //! The aliases that a deletion leaves without their source: each becomes a regular page.
-ghost use Rattle.std.specs.Prelude.{◌≡◌, ◌≤◌, ◌+◌, ◌-◌, ◌&&◌, true, not, Some, IsSome, IfOk, OnOk, length, filter, nat_lt, if◌then◌else◌};
-ghost use Rattle.std.specs.List.{AllByRecursion, insert};
-ghost use Rattle.page_tree.specs.Tree.{Forest, has_page, node_of};
+ghost use Rattle.std.specs.Prelude.{◌≡◌, ◌+◌, ◌-◌, ◌≤◌, ◌++◌, ◌∷◌, [], true, not, IsSome, IfOk, OnOk, length, filter, nat_lt, if◌then◌else◌};
+ghost use Rattle.std.specs.List.{AllByRecursion};
+ghost use Rattle.page_tree.specs.Tree.{Forest, has_page, node_of, ids_of};
 ghost use Rattle.page_tree.specs.Rows.{rows_of, row_with};
-ghost use Rattle.page_store.specs.Pages.{Page};
 ghost use Rattle.site_ids.specs.declared.ids.TheConstants.{LAST_REVISION_ID};
 ghost use Rattle.site_types.specs.declared.body.Body.{Body as PageBody};
 ghost use Rattle.site_types.specs.declared.command.Command.TheVariants as commands;
 ghost use Rattle.site_model.specs.World as worlds;
-ghost use Rattle.site_model.specs.Delete.{loses_source, losing_source, aliases_left, delete_rules, id_key};
+ghost use Rattle.site_model.specs.Delete.{aliases_left, delete_rules};
 ghost use Rattle.site_model.specs.Limits.{MAX_CONTENTS, contents_length};
-ghost use Rattle.site_model.specs.Users as users;
+ghost use Rattle.link_index.specs.Pairs.{seconds_of, PairsRise};
 ghost use Rattle.grants.specs.Standing.{IsReady};
-ghost use Rattle.tree_edits.specs.Plans.{PlansBy, IsAsked};
-ghost use Rattle.tree_edits.specs.Leaving.{IsAliasHere, AreDetached};
+ghost use Rattle.new_pages.specs.Plans.{PlansBy, IsAsked};
+ghost use Rattle.tree_edits.specs.Leaving.{IsAliasHere, AreDetached, staying};
 
 use crate::detaching::{Detached, detach_page};
-use crate::telling::later;
 use grants::{Fault, TreePart};
+use new_pages::{goes, later, weighs_more};
 use page_store::Rows;
-use path_moves::leads_into_itself;
 use revision_shelf::MAX_CONTENT_SUM;
-use site_types::{Body, Items, Moment, NoMemory, PageId, Refusal, Revision, RevisionId, UserId};
+use site_types::{
+    Body, Ids, Items, LAST_REVISION_ID, Moment, NoMemory, PageId, Refusal, Revision, RevisionId,
+    UserId,
+};
 use std::alloc::Global;
-
-/// The greatest id of a revision.
-const LAST_ID: u64 = 4_000_000_000;
 
 /// The aliases that a deletion leaves without their source, as regular pages.
 #[derive(Drop)]
@@ -37,30 +35,35 @@ pub(crate) struct LeftAliases {
 }
 
 /// What becomes of the aliases that the deletion of a page leaves, or the first rule that refuses
-/// it.
+/// it. `gone` has the pages that go, the page first.
+///
+/// It costs two searches for each page that goes; for each alias that is left, a copy of the content
+/// that it shows.
 pub(crate) fn plan_leaving(
     alloc: Global,
     part: &TreePart,
     page: PageId,
+    gone: &Ids,
     caller: UserId,
     now: Moment,
 ) -> Result<LeftAliases, Fault>
-    requires { (world : worlds.TreePart) × IsAsked part.now world caller (commands.Delete page) }
+    requires asked { (world : worlds.TreePart) × IsAsked part.now world caller (commands.Delete page) }
+    requires gone { (tree : Forest PageBody) → part.now.rows.pages ≡ rows_of tree
+        → gone.now ≡ ids_of (node_of page tree) }
     ensures { (world : worlds.TreePart) → IsAsked part.now world caller (commands.Delete page)
         → PlansBy (delete_rules world now caller page)
         (AreDetached world (worlds.time_at world now) caller (aliases_left world page)) result }
 {
-    let _len = part.rows.len();
-    let Ok(aliases) = left_aliases(alloc, &part.rows, page) else {
+    let Ok(aliases) = left_aliases(alloc, part, page, gone) else {
         return Err(Fault::Memory);
     };
-    if part.next_revision as u64 + aliases.len() as u64 > LAST_ID + 1 {
+    if part.next_revision as u64 + aliases.len() as u64 > LAST_REVISION_ID as u64 + 1 {
         return Err(Fault::Refused(Refusal::IdsFull));
     }
     let Ok(made) = all_detached(alloc, part, &aliases, caller, later(part.time, now)) else {
         return Err(Fault::Memory);
     };
-    if weighs_more(room_left(part, page), made.revisions.as_slice()) {
+    if overfills(part, page, made.revisions.as_slice()) {
         return Err(Fault::Refused(Refusal::ContentFull));
     }
     Ok(made)
@@ -68,86 +71,65 @@ pub(crate) fn plan_leaving(
 
 /// The pages that stay and are aliases of pages that go with a page, rising by id.
 ///
-/// It costs a look at each page of the site, and for each alias a comparison of paths.
-fn left_aliases(alloc: Global, rows: &Rows, page: PageId) -> Result<Vec<PageId>, NoMemory>
-    requires { IsSome (row_with page rows.now.pages) }
-    ensures { (tree : Forest PageBody) → rows.now.pages ≡ rows_of tree
-        → IfOk result (λ ids. ids.items ≡ losing_source (node_of page tree) (rows_of tree)) }
+/// It costs two searches for each page that goes, a look-up and a comparison of paths for each of
+/// their aliases, and a sort of those that stay.
+fn left_aliases(
+    alloc: Global,
+    part: &TreePart,
+    page: PageId,
+    gone: &Ids,
+) -> Result<Vec<PageId>, NoMemory>
+    requires { (world : worlds.TreePart) × IsReady part.now world × (has_page page world.tree ≡ true)
+        × (gone.now ≡ ids_of (node_of page world.tree)) }
+    ensures { (world : worlds.TreePart) → IsReady part.now world
+        → gone.now ≡ ids_of (node_of page world.tree)
+        → IfOk result (λ ids. ids.items ≡ aliases_left world page) }
 {
-    let len = rows.len();
+    let _len = part.rows.len();
     let mut left = Vec::new(alloc);
-    for done in 0..len {
-        let Some(id) = rows.at(len - 1 - done) else {
+    for number in gone.as_slice() {
+        let Some(source) = PageId::new(*number) else {
             unreachable!();
         };
-        put_if(&mut left, id, is_losing(rows, page, id))?;
+        put_staying(part, page, source, &mut left)?;
     }
+    left.sort_unstable();
     Ok(left)
 }
 
-/// Whether a page that is there stays, and shows one that goes with a page.
-fn is_losing(rows: &Rows, page: PageId, id: PageId) -> bool
-    requires { IsSome (row_with page rows.now.pages) }
-    ensures { (tree : Forest PageBody) (row : Page) → rows.now.pages ≡ rows_of tree
-        → row_with id rows.now.pages ≡ Some row → result ≡ loses_source (node_of page tree) row }
+/// Puts the aliases of a page that stay as another goes after other pages.
+fn put_staying(
+    part: &TreePart,
+    page: PageId,
+    source: PageId,
+    left: &mut Vec<PageId>,
+) -> Result<(), NoMemory>
+    requires { IsSome (row_with page part.now.rows.pages) }
+    ensures found { (tree : Forest PageBody) → part.now.rows.pages ≡ rows_of tree → OnOk result
+        (left.new.items ≡ left.old.items
+        ++ staying (node_of page tree) (seconds_of source part.now.aliases.pairs)) }
+    ensures pairs_rise { PairsRise part.now.aliases.pairs }
 {
-    let Some(row) = rows.row(id) else {
-        return false;
-    };
-    match row.body.source {
-        Some(source) => {
-            let own = goes(rows, page, id);
-            let shown = goes(rows, page, source);
-            loses(own, shown)
-        }
-        None => false,
+    let aliases = part.aliases.follow(source)?;
+    for number in aliases.as_slice() {
+        let Some(alias) = PageId::new(*number) else {
+            unreachable!();
+        };
+        let goes = goes(&part.rows, page, alias);
+        put_if(left, alias, !goes)?;
     }
-}
-
-/// Whether a page stays and what it shows goes, by whether each goes.
-fn loses(own: bool, shown: bool) -> bool
-    ensures { result ≡ (not own && shown) }
-{
-    !own && shown
-}
-
-/// Whether a page goes with another: it is that page, or lies below it.
-fn goes(rows: &Rows, page: PageId, other: PageId) -> bool
-    requires { IsSome (row_with page rows.now.pages) }
-    ensures { (tree : Forest PageBody) → rows.now.pages ≡ rows_of tree
-        → result ≡ has_page other (node_of page tree) }
-{
-    let _len = rows.len();
-    match rows.row(other) {
-        Some(_row) => leads_into_itself(rows, page, other),
-        None => false,
-    }
-}
-
-/// Puts an id among others, before the first that is greater, if it is to be there.
-fn put_if(ids: &mut Vec<PageId>, id: PageId, wanted: bool) -> Result<(), NoMemory>
-    ensures { OnOk result (ids.new.items
-        ≡ (if wanted then users.put_in id_key id ids.old.items else ids.old.items)) }
-{
-    if !wanted {
-        return Ok(());
-    }
-    let place = place_in(ids.as_slice(), id);
-    ids.insert(place, id)?;
     Ok(())
 }
 
-/// The place before the first id that is greater than this one.
-fn place_in(ids: &[PageId], id: PageId) -> usize
-    ensures within { result ≤ length ids.now }
-    ensures put { insert ids.now result id ≡ users.put_in id_key id ids.now }
+/// Puts a page after others, if it is to be there.
+fn put_if(pages: &mut Vec<PageId>, page: PageId, wanted: bool) -> Result<(), NoMemory>
+    ensures { OnOk result (pages.new.items
+        ≡ pages.old.items ++ (if wanted then page ∷ [] else [])) }
 {
-    for (place, other) in ids.iter().enumerate() {
-        if id.get() < other.get() {
-            return place;
-        }
+    if wanted {
+        pages.push(page)?;
     }
-    ids.len()
+    Ok(())
 }
 
 /// These aliases as regular pages.
@@ -181,6 +163,23 @@ fn all_detached(
     })
 }
 
+/// Whether the contents of these revisions have no room beside those that stay as a page goes.
+///
+/// It costs a look at each of these revisions. Only where they have no room beside all that there
+/// are, it costs one at each revision of the site: the shelf tells no page's revisions one by one.
+fn overfills(part: &TreePart, page: PageId, revisions: &[Revision]) -> bool
+    requires { (world : worlds.TreePart) × IsReady part.now world × (has_page page world.tree ≡ true) }
+    ensures { (world : worlds.TreePart) → IsReady part.now world
+        → result ≡ nat_lt MAX_CONTENTS (contents_length
+        (filter (λ revision. not (has_page revision.page (node_of page world.tree))) world.revisions)
+        + contents_length revisions.now) }
+{
+    if !weighs_more(MAX_CONTENT_SUM - part.shelf.weight(), revisions) {
+        return false;
+    }
+    weighs_more(room_left(part, page), revisions)
+}
+
 /// How many bytes the contents of revisions may take beside those that stay as a page goes.
 ///
 /// It costs a look at each revision of the site.
@@ -208,19 +207,4 @@ fn less(room: u64, form: u64, taken: bool) -> u64
     ensures { result ≡ (if taken then room - form else room) }
 {
     if taken { room - form } else { room }
-}
-
-/// Whether the contents of these revisions take more than so many bytes.
-fn weighs_more(room: u64, revisions: &[Revision]) -> bool
-    ensures { result ≡ nat_lt room (contents_length revisions.now) }
-{
-    let mut left = room;
-    for revision in revisions {
-        let form = revision.content.form_length();
-        if left < form {
-            return true;
-        }
-        left -= form;
-    }
-    false
 }

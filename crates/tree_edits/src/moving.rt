@@ -9,13 +9,12 @@ ghost use Rattle.site_model.specs.World as worlds;
 ghost use Rattle.site_model.specs.Rules.{first_of};
 ghost use Rattle.grants.specs.Plans.{Prepares};
 ghost use Rattle.grants.specs.Standing.{IsReady, IsSame};
-ghost use Rattle.tree_edits.specs.Plans.{PlansBy, IsAsked, NamesMove};
-ghost use Rattle.tree_edits.specs.Moving.{there_rules, taken_by, IsNamed, IsAway, IsMovePlan, AreLostBelow};
+ghost use Rattle.new_pages.specs.Plans.{PlansBy, IsAsked, NamesMove};
+ghost use Rattle.new_pages.specs.Moving.{there_rules, taken_by, IsNamed, IsAway, IsMovePlan, AreLostBelow};
 
-use crate::place::both;
-use crate::telling::{later, told_page};
 use grants::{Change, Fault, Plan, TreeChange, TreePart};
 use lost_desks::lost_by_move;
+use new_pages::{both, later, told_page};
 use page_store::{MovePlan, Rows, Urls, is_beside, new_parent};
 use path_moves::{leads_into_itself, plan_move};
 use site_types::{Ids, Moment, NoMemory, PageId, Position, Refusal};

@@ -5,15 +5,15 @@ ghost use Rattle.site_model.specs.World as worlds;
 ghost use Rattle.site_model.specs.Laws.{FitsCommand};
 ghost use Rattle.grants.specs.Standing.{IsReady, IsSame};
 ghost use Rattle.grants.specs.Plans.{Prepares};
-ghost use Rattle.tree_edits.specs.Plans.{IsAsked, is_on_tree};
+ghost use Rattle.new_pages.specs.Plans.{IsAsked};
+ghost use Rattle.tree_edits.specs.OnTree.{is_on_tree};
 
-use crate::aliasing::plan_aliasing;
-use crate::creation::plan_creation;
 use crate::deletion::plan_deletion;
 use crate::detaching::plan_detaching;
 use crate::moving::plan_moving;
 use crate::renaming::plan_renaming;
 use grants::{Fault, Plan, TreePart, front};
+use new_pages::{plan_aliasing, plan_copying, plan_creation};
 use site_types::{Command, Content, Moment, UserId};
 use std::alloc::Global;
 
@@ -76,6 +76,12 @@ fn plan_passed(
             slug,
         } => plan_aliasing(alloc, part, *source, *parent, slug, caller, now),
         Command::Detach { page } => plan_detaching(alloc, part, *page, caller, now),
+        Command::Copy {
+            page,
+            parent,
+            slug,
+            deep,
+        } => plan_copying(alloc, part, *page, *parent, slug, *deep, caller, now),
         _ => unreachable!(),
     }
 }

@@ -67,7 +67,7 @@ pub record HoldsOfForms (Such : Command → Type 0) (test : CommandForm → Bool
   pub shadowing : (source parent : ℕ) (slug : List ℕ) → IsSlug slug →
       Such (Alias source parent slug)
   pub copying : (page parent : ℕ) (slug : List ℕ) (deep : Bool) → IsSlug slug →
-      test forms.Copy ≡ true → Such (Copy page parent slug deep)
+      Such (Copy page parent slug deep)
   pub saving : (page : ℕ) (content : ContentValue) → FitsLimits content →
       Such (SaveDesk page content)
   pub filing : (page : ℕ) (go_live expire : Option ℕ) → IfSome go_live IsMoment →
@@ -204,13 +204,13 @@ module _ (Such : Command → Type 0) (test : CommandForm → Bool) (hold : Holds
 
   -- so is a copy
   copy_is : (page parent : Option ℕ) (slug : Option (List ℕ)) (deep : Option Bool) →
-      AreSlugs slug → test forms.Copy ≡ true → AreSuch Such (copy_of page parent slug deep)
-  copy_is (Some page) (Some parent) (Some slug) (Some deep) is passed =
-      hold.copying page parent slug deep is passed
-  copy_is (Some page) (Some parent) (Some slug) None is passed = tt
-  copy_is (Some page) (Some parent) None deep is passed = tt
-  copy_is (Some page) None slug deep is passed = tt
-  copy_is None parent slug deep is passed = tt
+      AreSlugs slug → AreSuch Such (copy_of page parent slug deep)
+  copy_is (Some page) (Some parent) (Some slug) (Some deep) is =
+      hold.copying page parent slug deep is
+  copy_is (Some page) (Some parent) (Some slug) None is = tt
+  copy_is (Some page) (Some parent) None deep is = tt
+  copy_is (Some page) None slug deep is = tt
+  copy_is None parent slug deep is = tt
 
   -- so is the saving of a text
   saving_is : (page : Option ℕ) (content : Option ContentValue) → IfSome content FitsLimits →
@@ -287,7 +287,7 @@ module _ (Such : Command → Type 0) (test : CommandForm → Bool) (hold : Holds
       (copy_of (id_at (codes "page") value) (id_at (codes "parent") value) (slug_at value)
       (truth_at (codes "deep") value))
       (copy_is (id_at (codes "page") value) (id_at (codes "parent") value) (slug_at value)
-      (truth_at (codes "deep") value) (member_slug (get (codes "slug") value)) passed)
+      (truth_at (codes "deep") value) (member_slug (get (codes "slug") value)))
   form_is (forms.OnPage verb) value passed =
       such_if Such (has_exactly (codes "page" ∷ []) value)
       (option_map (command_on verb) (id_at (codes "page") value))

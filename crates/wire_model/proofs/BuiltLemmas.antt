@@ -1,8 +1,7 @@
 -- Each command that a request can ask for is built.
-use Rattle.std.proofs.Common.{◌≡◌, ℕ, Bool, true, false, [], Ok, refl, ◌∙◌}
+use Rattle.std.proofs.Common.{◌≡◌, ℕ, Bool, true, Ok, refl, ◌∙◌}
 use Rattle.std.specs.Prelude.{IsTrue}
 use Rattle.site_types.specs.declared.command.Command.{Command}
-use Rattle.site_types.specs.declared.command.Command.TheVariants.{Copy}
 use Rattle.http_model.specs.Requests.{Request}
 use Rattle.wire_model.specs.declared.call.Call.TheVariants.{Run}
 use Rattle.wire_model.specs.declared.form.CommandForm.{CommandForm}
@@ -24,7 +23,7 @@ form_built forms.Create = true
 form_built forms.Move = true
 form_built forms.SetSlug = true
 form_built forms.Alias = true
-form_built forms.Copy = is_built (Copy 1 1 [] false)
+form_built forms.Copy = true
 form_built (forms.OnPage verb) = is_built (command_on verb 1)
 form_built forms.Save = true
 form_built forms.File = true
@@ -59,7 +58,7 @@ all_built = record {
   moving = λ page target position. refl;
   naming = λ page slug is. refl;
   shadowing = λ source parent slug is. refl;
-  copying = λ page parent slug deep is passed. passed;
+  copying = λ page parent slug deep is. refl;
   saving = λ page content fits. refl;
   filing = λ page go_live expire live ends. refl;
   on_page = λ verb page passed. verb_built verb page ∙ passed;

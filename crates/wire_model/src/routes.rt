@@ -16,7 +16,7 @@ pub const COMMAND_ROUTES: [CommandRoute; 30] = [
     ("/api/slug", Some(CommandForm::SetSlug)),
     ("/api/alias", Some(CommandForm::Alias)),
     ("/api/detach", Some(CommandForm::OnPage(PageVerb::Detach))),
-    ("/api/copy", None),
+    ("/api/copy", Some(CommandForm::Copy)),
     ("/api/open", Some(CommandForm::OnPage(PageVerb::OpenDesk))),
     ("/api/save", Some(CommandForm::Save)),
     ("/api/shut", Some(CommandForm::OnPage(PageVerb::ShutDesk))),

@@ -3,7 +3,7 @@ use Rattle.std.proofs.Common.{◌≡◌, ℕ, ◌∷◌, [], List, length, refl,
 use Rattle.site_types.specs.declared.body.Body.{Body}
 use Rattle.flat_model.specs.Fits.{BodiesFit}
 use Rattle.flat_model.specs.Made.{with_bodies}
-use Rattle.grants.specs.Standing.{AreAliases}
+use Rattle.link_plans.specs.PageLinks.{AreAliases}
 use Rattle.part_commits.specs.InStep.{TimedBut}
 use Rattle.part_commits.proofs.AliasLemmas.{aliased_put}
 use Rattle.part_commits.proofs.InStepLemmas.{one_put, none_to_change}

@@ -3,7 +3,8 @@ use Rattle.std.proofs.Common.{rules}
 use Rattle.publishing.proofs.TimesLemmas.{timed-left}
 use Rattle.page_store.specs.Changes.{without_range}
 use Rattle.part_commits.proofs.AliasLemmas.{aliased_left}
-use Rattle.part_commits.proofs.LeavingLemmas.{ids_of_range, range_left, range_within}
+use Rattle.link_plans.proofs.GoingLemmas.{ids_of_range, range_within}
+use Rattle.part_commits.proofs.LeavingLemmas.{range_left}
 use Rattle.part_commits.proofs.leaving.drop_range.Goals as goal
 
 pub unreachable-requires : goal.unreachable-requires

@@ -1,6 +1,6 @@
 -- The page comes, with its source.
 use Rattle.std.proofs.Common.{sym, subst}
-use Rattle.grants.specs.Standing.{AreAliases}
+use Rattle.link_plans.specs.PageLinks.{AreAliases}
 use Rattle.part_commits.proofs.AliasLemmas.{aliased_come}
 use Rattle.part_commits.proofs.tree.put_page.Goals as goal
 

@@ -3,7 +3,7 @@
 use Rattle.std.proofs.Common.{◌≡◌, ◌+◌, ◌≤◌, length}
 use Rattle.flat_model.specs.Fits.{PagesFit}
 use Rattle.flat_model.specs.Made.{with_pages}
-use Rattle.grants.specs.Standing.{AreAliases}
+use Rattle.link_plans.specs.PageLinks.{AreAliases}
 use Rattle.part_commits.proofs.tree.put_pages.Given as goal
 
 abbrev pub invariant-loop-row : goal.invariant-loop-row

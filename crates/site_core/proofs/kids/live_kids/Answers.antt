@@ -1,9 +1,10 @@
 -- The first of the kids are told, one by one.
-use Rattle.std.proofs.Common.{◌≤◌, ◌<◌, ◌∷◌, [], length, sym, ap, subst, ◌∙◌, arith}
-use Rattle.page_tree.specs.Rows.{kids_in, row_with}
+use Rattle.std.proofs.Common.{sym, ap, subst, ◌∙◌, arith}
+use Rattle.page_tree.specs.Rows.{kids_in}
 use Rattle.public_view.specs.declared.kid.TheConstants.{MAX_KIDS}
 use Rattle.site_core.specs.Kids.{with_told, kids_told}
-use Rattle.site_core.proofs.KidLemmas.{AreFirst, first_full, first_all, first_more, shown_first}
+use Rattle.site_core.proofs.FirstLemmas.{AreFirst, first_full, first_all, first_more}
+use Rattle.site_core.proofs.KidLemmas.{shown_first}
 use Rattle.site_core.proofs.kids.live_kids.Goals as goal
 
 pub returns-then-len-ge-MAX_KIDS : goal.returns-then-len-ge-MAX_KIDS

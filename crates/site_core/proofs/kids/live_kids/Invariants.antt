@@ -5,7 +5,7 @@ use Rattle.page_tree.specs.Rows.{rows_of, kids_in}
 use Rattle.site_types.specs.declared.body.Body.{Body}
 use Rattle.public_view.specs.declared.kid.TheConstants.{MAX_KIDS}
 use Rattle.site_core.specs.Kids.{kids_told}
-use Rattle.site_core.proofs.KidLemmas.{AreFirst}
+use Rattle.site_core.proofs.FirstLemmas.{AreFirst}
 use Rattle.site_core.proofs.kids.live_kids.Given as goal
 
 abbrev pub invariant-loop-kid : goal.invariant-loop-kid

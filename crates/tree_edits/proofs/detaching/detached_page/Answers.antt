@@ -6,8 +6,8 @@ use Rattle.site_types.specs.declared.revision.Revision.{Revision}
 use Rattle.grants.proofs.LiveLemmas.{body_found}
 use Rattle.site_model.specs.World as worlds
 use Rattle.tree_edits.specs.Leaving.{IsDetachedAt}
-use Rattle.tree_edits.proofs.CommandLemmas.{detach_names}
-use Rattle.tree_edits.proofs.CreationRules.{weights_are, sum_fits}
+use Rattle.new_pages.proofs.CommandLemmas.{detach_names}
+use Rattle.new_pages.proofs.CreationRules.{weights_are, sum_fits}
 use Rattle.tree_edits.proofs.DetachLemmas.{detach_known, detach_ids, detach_full, detach_clear, row_missing}
 use Rattle.tree_edits.proofs.detaching.detached_page.Goals as goal
 

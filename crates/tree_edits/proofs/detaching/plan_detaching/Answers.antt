@@ -4,8 +4,8 @@ use Rattle.site_types.specs.declared.command.Command.TheVariants.{Detach}
 use Rattle.site_model.specs.World as worlds
 use Rattle.site_model.specs.Aliases.{detach_rules}
 use Rattle.tree_edits.specs.Leaving.{IsDetachedAt}
-use Rattle.tree_edits.proofs.AskedLemmas.{own_refused}
-use Rattle.tree_edits.proofs.CommandLemmas.{detach_own}
+use Rattle.new_pages.proofs.AskedLemmas.{own_refused}
+use Rattle.new_pages.proofs.CommandLemmas.{detach_own}
 use Rattle.tree_edits.proofs.DetachLemmas.{detach_planned}
 use Rattle.tree_edits.proofs.detaching.plan_detaching.Goals as goal
 

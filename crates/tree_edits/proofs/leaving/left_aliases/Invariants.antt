@@ -1,14 +1,16 @@
--- The aliases among the last rows so far.
-use Rattle.std.proofs.Common.{◌≡◌, ◌-◌, length, drop}
-use Rattle.page_tree.specs.Tree.{Forest, node_of}
-use Rattle.page_tree.specs.Rows.{rows_of}
-use Rattle.site_types.specs.declared.body.Body.{Body}
-use Rattle.site_model.specs.Delete.{losing_source}
+-- What was found, and then what is found of the pages that are left, is what is found of all.
+use Rattle.std.proofs.Common.{◌≡◌, ◌≤◌, ◌++◌, drop}
+use Rattle.page_tree.specs.Tree.{node_of}
+use Rattle.link_index.specs.Pairs.{PairsRise}
+use Rattle.site_model.specs.World as worlds
+use Rattle.grants.specs.Standing.{IsReady}
+use Rattle.tree_edits.proofs.LeavingFound.{found}
 use Rattle.tree_edits.proofs.leaving.left_aliases.Given as goal
 
-abbrev pub invariant-loop-done : goal.invariant-loop-done
-invariant-loop-done l =
-    (tree : Forest Body) → l.rows.pages ≡ rows_of tree →
+abbrev pub invariant-loop-number : goal.invariant-loop-number
+invariant-loop-number l =
+    ((world : worlds.TreePart) → IsReady l.part world →
     l.left.items
-    ≡ losing_source (node_of l.page tree)
-    (drop (length l.rows.pages - l.done) l.rows.pages)
+    ++ found (node_of l.page world.tree) l.part.aliases.pairs (drop l.number-index l.number-items)
+    ≡ found (node_of l.page world.tree) l.part.aliases.pairs l.number-items)
+    × (1 ≤ l.number-index → PairsRise l.part.aliases.pairs)

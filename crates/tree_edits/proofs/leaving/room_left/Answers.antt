@@ -4,7 +4,7 @@ use Rattle.page_tree.specs.Tree.{has_page, node_of}
 use Rattle.site_types.specs.declared.revision.Revision.{Revision}
 use Rattle.site_model.specs.Limits.{MAX_CONTENTS, contents_length}
 use Rattle.tree_edits.proofs.LeavingMade.{room_fits, room_more}
-use Rattle.tree_edits.proofs.LookUpLemmas.{row_there}
+use Rattle.new_pages.proofs.LookUpLemmas.{row_there}
 use Rattle.tree_edits.proofs.leaving.room_left.Goals as goal
 
 pub goes-goes-requires : goal.goes-goes-requires

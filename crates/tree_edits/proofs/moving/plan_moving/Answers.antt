@@ -2,9 +2,9 @@
 use Rattle.std.proofs.Common.{refl}
 use Rattle.site_types.specs.declared.command.Command.TheVariants.{Move}
 use Rattle.site_model.specs.Moves.{move_rules}
-use Rattle.tree_edits.specs.Moving.{IsMovePlan}
-use Rattle.tree_edits.proofs.AskedLemmas.{own_refused, ending_is}
-use Rattle.tree_edits.proofs.CommandLemmas.{move_own}
+use Rattle.new_pages.specs.Moving.{IsMovePlan}
+use Rattle.new_pages.proofs.AskedLemmas.{own_refused, ending_is}
+use Rattle.new_pages.proofs.CommandLemmas.{move_own}
 use Rattle.tree_edits.proofs.MoveLemmas.{move_named, move_planned}
 use Rattle.tree_edits.proofs.MovePlans.{rows_named}
 use Rattle.tree_edits.proofs.moving.plan_moving.Goals as goal
@@ -48,7 +48,7 @@ returns-clause-plan c = λ world desk caller asked.
       time = refl;
       next_page = refl;
       next_revision = refl;
-      indexes = record { expiries = refl; go_lives = refl; aliases = refl };
+      indexes = record { expiries = refl; go_lives = refl; aliases = refl; links = refl };
     }) c.in-Ok-reserve.ensures.ok (c.in-Ok-shut_there.ensures world asked.ready)
     c.in-Ok-told_page.ensures c.later.ensures.value)
 

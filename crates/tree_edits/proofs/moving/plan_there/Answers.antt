@@ -1,8 +1,8 @@
 -- The refusals come in the order of the rules.
 use Rattle.std.proofs.Common.{sym, ◌∙◌, subst}
 use Rattle.site_model.specs.Rules.{first_of}
-use Rattle.tree_edits.specs.Moving.{there_rules, IsMovePlan}
-use Rattle.tree_edits.specs.Plans.{PlansBy}
+use Rattle.new_pages.specs.Moving.{there_rules, IsMovePlan}
+use Rattle.new_pages.specs.Plans.{PlansBy}
 use Rattle.tree_edits.proofs.MovePlans.{late_planned, taken_told, itself_refused, stays_refused, rows_named, away_is}
 use Rattle.tree_edits.proofs.moving.plan_there.Goals as goal
 

@@ -2,8 +2,8 @@
 use Rattle.std.proofs.Common.{ℕ, ◌∙◌, subst}
 use Rattle.std.specs.Prelude.{IfOk}
 use Rattle.path_moves.proofs.Planned.{parent_told}
-use Rattle.tree_edits.proofs.LookUpLemmas.{row_there}
-use Rattle.tree_edits.specs.Moving.{AreLostBelow}
+use Rattle.new_pages.proofs.LookUpLemmas.{row_there}
+use Rattle.new_pages.specs.Moving.{AreLostBelow}
 use Rattle.tree_edits.proofs.moving.shut_there.Goals as goal
 
 pub new_parent-parent-requires-clause-target_there :

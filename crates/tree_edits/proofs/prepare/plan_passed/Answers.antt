@@ -2,7 +2,7 @@
 use Rattle.std.proofs.Common.{sym, subst}
 use Rattle.site_types.specs.declared.command.Command.{Command}
 use Rattle.grants.specs.Plans.{Prepares}
-use Rattle.tree_edits.specs.Plans.{IsAsked}
+use Rattle.new_pages.specs.Plans.{IsAsked}
 use Rattle.tree_edits.proofs.prepare.plan_passed.Goals as goal
 
 pub returns-in-Create-clause-plan : goal.returns-in-Create-clause-plan
@@ -46,3 +46,10 @@ returns-in-Detach-clause-plan c = λ world desk asked.
     c.plan_detaching.new.part c.plan_detaching.result) (sym c.in-Detach.is)
     (c.plan_detaching.ensures.plan world desk
     (subst (IsAsked c.args.part.now world c.args.caller) c.in-Detach.is asked))
+
+pub returns-in-Copy-clause-plan : goal.returns-in-Copy-clause-plan
+returns-in-Copy-clause-plan c = λ world desk asked.
+    subst (λ (command : Command). Prepares world desk c.args.now c.args.caller command
+    c.plan_copying.new.part c.plan_copying.result) (sym c.in-Copy.is)
+    (c.plan_copying.ensures.plan world desk
+    (subst (IsAsked c.args.part.now world c.args.caller) c.in-Copy.is asked))

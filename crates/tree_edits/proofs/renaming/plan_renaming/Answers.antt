@@ -3,8 +3,8 @@ use Rattle.std.proofs.Common.{refl, ◌∙◌}
 use Rattle.site_types.specs.declared.command.Command.TheVariants.{SetSlug}
 use Rattle.site_model.specs.Slugs.{slug_rules}
 use Rattle.tree_edits.specs.Naming.{AreNewUrls}
-use Rattle.tree_edits.proofs.AskedLemmas.{own_refused, planned_is}
-use Rattle.tree_edits.proofs.CommandLemmas.{slug_own}
+use Rattle.new_pages.proofs.AskedLemmas.{own_refused, planned_is}
+use Rattle.new_pages.proofs.CommandLemmas.{slug_own}
 use Rattle.tree_edits.proofs.SlugLemmas.{slug_named, row_named, slug_planned}
 use Rattle.tree_edits.proofs.renaming.plan_renaming.Goals as goal
 
@@ -44,6 +44,6 @@ returns-clause-plan c = λ world desk caller asked.
       time = refl;
       next_page = refl;
       next_revision = refl;
-      indexes = record { expiries = refl; go_lives = refl; aliases = refl };
+      indexes = record { expiries = refl; go_lives = refl; aliases = refl; links = refl };
     }) c.in-Ok-reserve.ensures.ok c.in-Ok-told_page.ensures
     (c.from_vec-none.ensures ∙ c.new.ensures.items) c.copy-slug.ensures c.later.ensures.value)

@@ -4,7 +4,7 @@ use Rattle.tree_model.proofs.CountLemmas.{told_apart}
 use Rattle.slug_urls.specs.Plans.{planned_urls, UnlessMemory}
 use Rattle.site_model.specs.Slugs.{slug_rules}
 use Rattle.tree_edits.specs.Naming.{AreNewUrls}
-use Rattle.tree_edits.specs.Plans.{PlansBy}
+use Rattle.new_pages.specs.Plans.{PlansBy}
 use Rattle.tree_edits.proofs.MovePlans.{no_row_missing}
 use Rattle.tree_edits.proofs.SlugCall.{seen, no_parent, below, parent_is_there, parent_outside, sought, same_slug}
 use Rattle.tree_edits.proofs.SlugLemmas.{row_named}

@@ -36,7 +36,7 @@ returns-in-Short-clause-bad g c = λ payloads honest was offset is_bad.
     c.held.ensures in
     read-short before bytes payloads was c.held.result.now held_is c.left-left.result
     c.left-left.ensures.left (omega (arith, c.min.ensures, reaches.1)) c.in-Short.ensures.0
-    c.in-Short.ensures.1 offset (sym same_gate ∙ sym c.gate.ensures ∙ cc is_bad)
+    c.in-Short.ensures.1 offset (sym same_gate ∙ sym c.gate.ensures.gate ∙ cc is_bad)
 
 pub returns-in_ok-payload-in-Open-clause-some : goal.returns-in_ok-payload-in-Open-clause-some
 returns-in_ok-payload-in-Open-clause-some g c = λ payloads honest was.

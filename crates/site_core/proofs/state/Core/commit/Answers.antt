@@ -30,6 +30,12 @@ commit-reply-requires-clause-stays c =
     (sym (stands_seen c.args.self.now.tree c.requires.0.part c.requires.4.ready.stands.tree))
     c.requires.4.in_step
 
+pub commit-reply-requires-clause-linked : goal.commit-reply-requires-clause-linked
+commit-reply-requires-clause-linked c = c.requires.4.ready.stands.tree.linked
+
+pub commit-reply-requires-clause-links : goal.commit-reply-requires-clause-links
+commit-reply-requires-clause-links c = c.requires.4.links
+
 pub put_texts-requires-clause-opens : goal.put_texts-requires-clause-opens
 put_texts-requires-clause-opens c =
     subst (OpensWell c.args.self.now.desks) (sym c.commit-reply.ensures.told.opened)
@@ -46,7 +52,7 @@ returns-clause-stands c = λ world now caller command has. record {
       ∙ (ap (left_by c.args.plan)
       (stands_seen c.args.self.now.tree world.part has.ready.stands.tree)
       ∙ has.leads))
-      c.commit-reply.ensures.in_step;
+      c.commit-reply.ensures.in_step c.commit-reply.ensures.linked;
   desks = λ page.
       c.put_texts.ensures page
       ∙ (left_told c.args.plan c.commit-reply.result c.commit-reply.ensures.told page

@@ -1,8 +1,8 @@
--- The root alone is in step without moments and aliases, and no desk is open.
+-- The root alone is in step without moments, aliases and links, and no desk is open.
 use Rattle.std.proofs.Common.{refl, rules}
-use Rattle.grants.specs.Standing.{InStep}
+use Rattle.grants.specs.Standing.{InStep, IsLinked}
 use Rattle.grants.specs.declared.part.TreePart.{TreePart}
-use Rattle.site_core.proofs.StartStep.{start_in_step}
+use Rattle.site_core.proofs.StartStep.{start_in_step, start_linked}
 use Rattle.site_core.proofs.state.Core.new.Goals as goal
 
 pub returns : goal.returns
@@ -17,9 +17,11 @@ returns c =
       next_revision = 1;
       times = c.new-5.result;
       aliases = c.new-6.result;
+      links = c.new-7.result;
     } in
     let step : InStep part = start_in_step part c.in_ok-rows.ensures c.new-5.ensures.expiries
     c.new-5.ensures.go_lives c.new-6.ensures.pairs in
+    let linked : IsLinked part = start_linked part c.in_ok-rows.ensures c.new-7.ensures.pairs in
     record {
       tree = record {
         pages = search rules;
@@ -32,6 +34,7 @@ returns c =
         next_page = refl;
         next_revision = refl;
         in_step = step;
+        linked = linked;
       };
       desks = search rules;
     }

@@ -37,5 +37,7 @@ returns-in_default-clause-plan c = λ world ready fits.
     c.prepare_step.result c.prepare_step.ensures.room
     (c.prepare_step.ensures.in_step world.part (part_ready c.args.self.now world ready) fits
     (own_fits c.args.self.now world ready c.args.caller (desk_page c.args.command.now)))
+    (c.prepare_step.ensures.links world.part (part_ready c.args.self.now world ready) fits
+    (own_fits c.args.self.now world ready c.args.caller (desk_page c.args.command.now)))
     (c.prepare_step.ensures.plan world.part (part_ready c.args.self.now world ready) fits
     (own_fits c.args.self.now world ready c.args.caller (desk_page c.args.command.now)))

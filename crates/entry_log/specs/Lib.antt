@@ -1,0 +1,5 @@
+pub mod Appending
+pub mod Entries
+pub mod Log
+pub mod Scan
+pub mod Laws

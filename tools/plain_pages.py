@@ -12,6 +12,10 @@ def time_text(moment):
     return at.strftime("%Y-%m-%dT%H:%M:%SZ")
 
 
+class Refused(Exception):
+    """A rule refuses a command: its number, its name, and what it tells of."""
+
+
 class Revision:
     """A content that was filed, by whom and when, and when it is to go live and to expire."""
 
@@ -32,7 +36,7 @@ class Page:
         self.live = self.expired = False
         self.shown = self.latest = self.scheduled = None
         self.first_published = self.last_published = None
-        self.locked_by = None
+        self.locked_by = self.workflow = self.moderation = None
 
     def walk(self):
         """The pages from the root to the page."""
@@ -88,6 +92,10 @@ class Page:
     def height(self):
         """The number of pages on the longest walk down from the page."""
         return 1 + max((kid.height() for kid in self.kids), default=0)
+
+    def reach(self, slug, deep=True):
+        """The bytes that the page with this slug, and what is below it, add to a URL at most."""
+        return len(slug) + 1 + max((kid.reach(kid.slug) for kid in self.kids if deep), default=0)
 
     def kid_named(self, slug):
         """The kid with the slug, or None."""

@@ -5,23 +5,23 @@ docs/API.md lists it. Nothing here is fast.
 """
 import hashlib
 
-from plain_pages import Page, Revision, time_text
+from plain_flows import Flows
+from plain_pages import Page, Refused, Revision, time_text
 
 PERMISSIONS = ["add", "change", "publish", "bulk_delete", "lock", "unlock"]
-SUPERUSER = 7
+NEEDS = PERMISSIONS + ["superuser", "approve"]
+FLOW_ROUTES = ["submit", "approve", "reject", "cancel", "members", "publish"]
 MAX_KIDS = 1_000
 MAX_DESKS = 4_096
 MAX_REFS = 1_000
 MAX_DEPTH = 63
+MAX_URL = 8_192
+LAST_ID = 65_535
 
 
 def digest_of(token):
     """The text of a token's digest."""
     return hashlib.sha256(token.encode()).hexdigest()
-
-
-class Refused(Exception):
-    """A rule refuses a command: its number, its name, and what it tells of."""
 
 
 def kind_of(goal, beside):
@@ -34,8 +34,8 @@ def kind_of(goal, beside):
     return {0: "first", len(around) - 1: "last"}.get(around.index(goal), "middle")
 
 
-class Site:
-    """The plain tree with its users, revisions and desks, by the rules of the commands."""
+class Site(Flows):
+    """The plain tree with its users, revisions, desks and moderations, by the rules of the commands."""
 
     def __init__(self, token):
         self.root = Page(1, "", 0)
@@ -43,7 +43,7 @@ class Site:
         self.users, self.groups = [(digest_of(token), True)], 0
         self.members, self.grants = set(), set()
         self.revisions, self.next_revision = {}, 1
-        self.desks = {}
+        self.desks, self.tasks, self.workflows = {}, [], []
         self.time = self.now = 0
         self.caller, self.seen, self.refusals = 1, set(), {}
 
@@ -67,18 +67,27 @@ class Site:
             for above in page.walk() for group in groups
         )
 
+    def may_edit_by_rights(self, page, user):
+        """Whether a user may edit a page by permissions alone."""
+        own = self.holds("add", page, user) and page.owner == user
+        return self.holds("change", page, user) or own
+
+    def has_desk_by_task(self, number):
+        """Whether a page has a desk of a user who may edit it only since it waits for a task of theirs."""
+        held = number in self.desks
+        return held and not self.may_edit_by_rights(self.pages[number], self.desks[number][0])
+
     def may_edit(self, page, user=None):
         """Whether a user, or the caller, meets the need to edit a page."""
         user = user or self.caller
-        own = self.holds("add", page, user) and page.owner == user
-        return self.holds("change", page, user) or own
+        asked = self.task_of(page) is not None and self.is_asked(page, user)
+        return self.may_edit_by_rights(page, user) or asked
 
     def need(self, met, name):
         """Refuses the caller who does not meet a need."""
         if not met and not self.is_super():
             self.seen.add(("need", name))
-            number = SUPERUSER if name == "superuser" else PERMISSIONS.index(name) + 1
-            raise Refused(3, "Denied", number)
+            raise Refused(3, "Denied", NEEDS.index(name) + 1)
 
     def need_to_take(self, page):
         """Refuses the caller who may not take a page away with all below it."""
@@ -123,6 +132,16 @@ class Site:
         if len(above.walk()) + height > MAX_DEPTH:
             raise Refused(10, "TooDeep")
 
+    def stop_long(self, above, bytes_more):
+        """Refuses a page below another one whose URL would be too long."""
+        if len(above.url()) + bytes_more > MAX_URL:
+            raise Refused(11, "UrlTooLong")
+
+    def stop_full(self, count):
+        """Refuses one more of a kind of which there are as many as ids."""
+        if count >= LAST_ID:
+            raise Refused(12, "IdsFull")
+
     def stop_taken(self, above, slug, moved=None):
         """Refuses a slug that a kid has."""
         taken = next((kid for kid in above.kids if kid.slug == slug and kid is not moved), None)
@@ -159,12 +178,14 @@ class Site:
         self.need(self.is_super(), "superuser")
         if any(digest == known for known, _ in self.users):
             raise Refused(15, "NothingNew")
+        self.stop_full(len(self.users))
         self.users.append((digest, superuser))
         return {"id": len(self.users)}
 
     def groups_post(self):
         """A group is defined."""
         self.need(self.is_super(), "superuser")
+        self.stop_full(self.groups)
         self.groups += 1
         return {"id": self.groups}
 
@@ -203,6 +224,7 @@ class Site:
         self.need(self.holds("add", above), "add")
         self.stop_taken(above, slug)
         self.stop_deep(above)
+        self.stop_long(above, len(slug) + 1)
         page = self.new_page(above, slug)
         page.shown = self.file_revision(page, content)
         return self.replied(page)
@@ -224,6 +246,7 @@ class Site:
             raise Refused(15, "NothingNew")
         self.stop_taken(above, moved.slug, moved)
         self.stop_deep(above, moved.height())
+        self.stop_long(above, moved.reach(moved.slug))
         self.seen.add((position, kind_of(goal, beside)))
         moved.parent.kids.remove(moved)
         if position.startswith("first"):
@@ -259,9 +282,11 @@ class Site:
         self.need(self.may_edit(one), "change")
         self.need(not one.is_any_live() or self.holds("publish", one), "publish")
         self.stop_locked(one)
+        self.stop_moderated(one)
         if one.slug == slug:
             raise Refused(15, "NothingNew")
         self.stop_taken(one.parent, slug, one)
+        self.stop_long(one.parent, one.reach(slug))
         one.slug = slug
         return self.replied(one)
 
@@ -283,6 +308,7 @@ class Site:
         self.need(not of.is_live() or self.holds("publish", above), "publish")
         self.stop_taken(above, slug)
         self.stop_deep(above)
+        self.stop_long(above, len(slug) + 1)
         if of.source:
             self.seen.add(("alias", "of an alias"))
         page = self.new_page(above, slug)
@@ -318,6 +344,7 @@ class Site:
             raise Refused(7, "IntoItself")
         self.stop_taken(above, slug)
         self.stop_deep(above, one.height() if deep else 1)
+        self.stop_long(above, one.reach(slug, deep))
         if above in one.all_below():
             self.seen.add(("copy", "flat into itself"))
         self.seen.add(("copy", "deep" if deep and one.kids else "flat"))
@@ -333,10 +360,13 @@ class Site:
         self.need(self.may_edit(one), "change")
         self.stop_locked(one)
         self.stop_alias(one)
+        self.stop_moderated(one)
         if page in self.desks:
             raise Refused(14, "DeskTaken", self.desks[page][0])
         if len(self.desks) >= MAX_DESKS:
             raise Refused(21, "ContentFull")
+        if not self.may_edit_by_rights(one, self.caller):
+            self.seen.add(("open", "by a member of the task"))
         self.desks[page] = (self.caller, one.latest.content)
         return {}
 
@@ -359,6 +389,7 @@ class Site:
         if (text, go_live_at, expire_at) == (old.content, old.go_live, old.expire):
             raise Refused(15, "NothingNew")
         revision = self.file_revision(one, text, go_live_at, expire_at)
+        self.was_filed(one, revision)
         del self.desks[page]
         return {"id": revision.number}
 
@@ -370,20 +401,30 @@ class Site:
         self.need(self.holds("publish", one), "publish")
         self.stop_locked(one)
         self.stop_alias(one)
+        self.stop_moderated(one)
         latest = one.latest
         waits = latest.go_live is not None and latest.go_live > moment
         if (one.live and one.shown is latest) or (one.scheduled is latest and waits):
             raise Refused(15, "NothingNew")
-        if latest.expire is not None and (
-            latest.expire <= moment or (latest.go_live is not None and latest.expire <= latest.go_live)
-        ):
-            raise Refused(20, "AlreadyExpired")
+        self.stop_expired(latest)
+        self.put_out(one, latest)
+        self.was_published(one)
         if waits:
-            one.scheduled = latest
             self.seen.add(("publish", "scheduled"))
-        else:
-            self.show(one, latest)
         return {"scheduled": waits}
+
+    def stop_expired(self, revision):
+        """Refuses a revision to be published that has expired, or expires before it goes live."""
+        end, start = revision.expire, revision.go_live
+        if end is not None and (end <= self.moment() or (start is not None and end <= start)):
+            raise Refused(20, "AlreadyExpired")
+
+    def put_out(self, page, revision):
+        """A revision of a page is published, or scheduled if its go-live is to come."""
+        if revision.go_live is not None and revision.go_live > self.moment():
+            page.scheduled = revision
+        else:
+            self.show(page, revision)
 
     def show(self, page, revision):
         """A revision of a page is published now."""
@@ -472,6 +513,9 @@ class Site:
         self.stop_locked(one)
         self.stop_alias(one)
         kept = {one.shown, one.latest, one.scheduled}
+        if one.moderation and one.moderation.revision not in kept:
+            self.seen.add(("purge", "beside a moderated revision"))
+            kept.add(one.moderation.revision)
         gone = [n for n, r in self.revisions.items() if r.page == page and r not in kept]
         if not gone:
             raise Refused(15, "NothingNew")
@@ -485,14 +529,18 @@ class Site:
         """Desks end whose page is gone, or whose user may not work there any more."""
         for number, (user, _) in list(self.desks.items()):
             page = self.pages.get(number)
-            if page and self.may_edit(page, user) and page.locked_by in (None, user):
+            if page and page.locked_by in (None, user) and (
+                self.is_super(user) or (self.may_edit(page, user) and not self.stops(page, user))
+            ):
                 continue
             self.seen.add(("desk", "lost by its page" if page is None else "lost by its user"))
+            if page and self.route in FLOW_ROUTES:
+                self.seen.add(("desk", f"lost by {self.route}"))
             del self.desks[number]
 
     def run(self, token, route, now, **fields):
         """A command's answer to the caller with this token at a moment."""
-        self.caller, self.now = self.user_of(token), now
+        self.caller, self.now, self.route = self.user_of(token), now, route
         if self.caller is None:
             return {"error": "NoUser"}
         try:
@@ -527,13 +575,13 @@ class Site:
             "latest": number_of(page.latest),
             "live": page.is_live(),
             "locked_by": page.locked_by or 0,
-            "moderation": "none",
+            "moderation": page.moderation.status if page.moderation else "none",
             "numchild": len(page.kids),
             "owner": page.owner,
             "scheduled": number_of(page.scheduled),
             "shown": number_of(page.shown),
             "slug": page.slug,
-            "task": 0,
+            "task": page.moderation.place if page.moderation else 0,
             "title": page.content()["title"],
             "unpublished_changes": page.latest is not None
             and (not page.live or page.shown is not page.latest),

@@ -8,7 +8,8 @@ use Rattle.http_model.specs.declared.status.StatusCode.TheVariants as statuses
 use Rattle.public_view.specs.declared.card.Card.{Card}
 use Rattle.site_types.specs.declared.body.Body.{Body}
 use Rattle.site_types.specs.declared.moderation.ModerationStatus.TheVariants.{NeedsChanges}
-use Rattle.site_types.specs.declared.refusal.Refusal.TheVariants.{SlugTaken, NothingNew, NoPage, NoDesk, Denied}
+use Rattle.site_types.specs.declared.refusal.Refusal.TheVariants.{SlugTaken, NothingNew, NoPage, NoDesk, Denied, InModeration, NoWorkflow, NotModerated, NoName}
+use Rattle.site_types.specs.declared.refusal.NameKind.TheVariants.{Workflow}
 use Rattle.site_types.specs.declared.reply.Reply.TheVariants as replies
 use Rattle.site_types.specs.RootBody.{root_body}
 use Rattle.wire_model.specs.declared.answer.Answer.TheVariants.{Method, Head, Refused}
@@ -50,6 +51,30 @@ nothing_new_is_told : compact_text (refusal_data NothingNew) ≡
     codes "{\"name\":\"NothingNew\",\"refused\":15}"
 unfolding digits serde_json_on_literals
 nothing_new_is_told = refl
+
+-- the task of a moderation
+a_moderation_stops : compact_text (refusal_data (InModeration 65535)) ≡
+    codes "{\"name\":\"InModeration\",\"refused\":6,\"with\":65535}"
+unfolding digits serde_json_on_literals
+a_moderation_stops = refl
+
+-- no workflow
+no_workflow_is_told : compact_text (refusal_data NoWorkflow) ≡
+    codes "{\"name\":\"NoWorkflow\",\"refused\":17}"
+unfolding digits serde_json_on_literals
+no_workflow_is_told = refl
+
+-- no moderation that allows the event
+no_moderation_is_told : compact_text (refusal_data NotModerated) ≡
+    codes "{\"name\":\"NotModerated\",\"refused\":18}"
+unfolding digits serde_json_on_literals
+no_moderation_is_told = refl
+
+-- a name that is none, by its kind
+no_name_is_told : compact_text (refusal_data (NoName Workflow)) ≡
+    codes "{\"name\":\"NoName\",\"refused\":19,\"with\":4}"
+unfolding digits serde_json_on_literals
+no_name_is_told = refl
 
 -- what is kept of a page that was just made: it shows its first revision, and is not live
 abbrev made_body : Body

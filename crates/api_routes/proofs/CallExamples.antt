@@ -231,7 +231,7 @@ unfolding call_of route_of
 an_unknown_path = refl
 
 -- not built
-not_built : call_of (bare_request Other (codes "/api/tasks")) ≡ Err NotBuilt
+not_built : call_of (bare_request Other (codes "/api/checkpoint")) ≡ Err NotBuilt
 unfolding call_of route_of
 not_built = refl
 

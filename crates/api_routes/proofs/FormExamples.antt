@@ -1,13 +1,14 @@
--- The definition of the commands on users, groups, memberships, grants and desks, of aliases, copies
--- and ticks at worked values.
-use Rattle.std.proofs.Common.{◌≡◌, ℕ, List, [], ◌∷◌, Some, None, refl, codes, true, false}
+-- The definition of the commands on users, groups, memberships, grants and desks, of aliases, copies,
+-- ticks, tasks, workflows and assignments at worked values.
+use Rattle.std.proofs.Common.{◌≡◌, ℕ, List, [], ◌∷◌, map, replicate, Some, None, refl, codes, true, false}
 use Rattle.serde_json.specs.Data.{Data, null, boolean, unsigned, number, string, array, object, no_items, no_members, member}
+use Rattle.serde_json.specs.View.{items_of}
 use Rattle.civil_time.specs.Periods.{days_of_first, place_of}
 use Rattle.civil_time.specs.TimeText.{civil_at, time_text}
-use Rattle.site_types.specs.declared.command.Command.TheVariants.{Alias, Copy, SaveDesk, File, DefineUser, DefineGroup, Member, Grant, Tick}
+use Rattle.site_types.specs.declared.command.Command.TheVariants.{Alias, Copy, SaveDesk, File, DefineUser, DefineGroup, Member, Grant, Tick, DefineTask, DefineWorkflow, Assign}
 use Rattle.site_types.specs.declared.permission.Permission.TheVariants.{BulkDelete}
 use Rattle.wire_model.specs.Times.{time_of}
-use Rattle.wire_model.specs.Forms.{hex_bytes, digest_of, alias_in, copy_in, tick_in, saving_in, filing_in, user_definition_in, group_definition_in, membership_in, grant_in}
+use Rattle.wire_model.specs.Forms.{hex_bytes, digest_of, alias_in, copy_in, tick_in, saving_in, filing_in, user_definition_in, group_definition_in, membership_in, grant_in, task_definition_in, workflow_definition_in, assignment_in}
 
 -- the SHA-256 digest of `hello`, as bytes
 abbrev hello : List ℕ
@@ -197,3 +198,68 @@ a_tick = refl
 -- a member too many
 no_tick : tick_in (copy_object null) ≡ None
 no_tick = refl
+
+-- the whole numbers of a list
+abbrev numbers : List ℕ → Data
+numbers ids = array (items_of (map (λ id. number (unsigned id)) ids))
+
+-- {"groups":..} with these groups
+abbrev task_object : List ℕ → Data
+task_object groups = object (member (codes "groups") (numbers groups) no_members)
+
+-- the groups of a task come in any order, and rise then
+a_task : task_definition_in (task_object (3 ∷ 1 ∷ 65535 ∷ 2 ∷ []))
+    ≡ Some (DefineTask (1 ∷ 2 ∷ 3 ∷ 65535 ∷ []))
+a_task = refl
+
+-- the same group twice is no task
+a_group_twice : task_definition_in (task_object (2 ∷ 1 ∷ 2 ∷ [])) ≡ None
+a_group_twice = refl
+
+-- nor is no group
+no_groups : task_definition_in (task_object []) ≡ None
+no_groups = refl
+
+-- {"tasks":..} with these tasks
+abbrev workflow_object : List ℕ → Data
+workflow_object tasks = object (member (codes "tasks") (numbers tasks) no_members)
+
+-- the tasks of a workflow keep their order, and may come again
+a_workflow : workflow_definition_in (workflow_object (2 ∷ 1 ∷ 2 ∷ []))
+    ≡ Some (DefineWorkflow (2 ∷ 1 ∷ 2 ∷ []))
+a_workflow = refl
+
+-- 16 tasks are a workflow
+abbrev sixteen : List ℕ
+sixteen = replicate 16 7
+
+-- they are read
+sixteen_tasks : workflow_definition_in (workflow_object sixteen) ≡ Some (DefineWorkflow sixteen)
+sixteen_tasks = refl
+
+-- one more is one too many
+seventeen_tasks : workflow_definition_in (workflow_object (7 ∷ sixteen)) ≡ None
+seventeen_tasks = refl
+
+-- no task has the id 0
+task_zero : workflow_definition_in (workflow_object (1 ∷ 0 ∷ [])) ≡ None
+task_zero = refl
+
+-- {"page":3,"workflow":..} with this workflow
+abbrev assignment_object : ℕ → Data
+assignment_object workflow =
+    object
+    (member (codes "page") (number (unsigned 3))
+    (member (codes "workflow") (number (unsigned workflow)) no_members))
+
+-- page 3 gets workflow 2
+an_assignment : assignment_in (assignment_object 2) ≡ Some (Assign 3 (Some 2))
+an_assignment = refl
+
+-- workflow 0 is none
+no_workflow : assignment_in (assignment_object 0) ≡ Some (Assign 3 None)
+no_workflow = refl
+
+-- there is no workflow after the last one
+workflow_too_far : assignment_in (assignment_object 65536) ≡ None
+workflow_too_far = refl

@@ -2,20 +2,22 @@
 ghost use Rattle.std.specs.Prelude.{◌≡◌};
 ghost use Rattle.serde_json.specs.View.{view};
 ghost use Rattle.block_content.specs.Reads.{Reads};
-ghost use Rattle.wire_model.specs.Forms.{command_in, creation_in, move_in, slug_change_in, alias_in, copy_in, saving_in, filing_in, page_command_in, command_on, user_definition_in, group_definition_in, membership_in, grant_in, tick_in};
+ghost use Rattle.wire_model.specs.Forms.{command_in, creation_in, move_in, slug_change_in, alias_in, copy_in, saving_in, filing_in, page_command_in, command_on, user_definition_in, group_definition_in, membership_in, grant_in, tick_in, task_definition_in, workflow_definition_in, assignment_in};
 
+use crate::ids::{groups_at, ids_at};
 use crate::member::{
     content_at, digest_at, group_at, id_at, permission_at, position_at, slug_at, time_at, truth_at,
-    user_at,
+    user_at, workflow_at,
 };
 use block_content::ContentFault;
 use block_content::members::has_exactly;
 use serde_json::Value;
-use site_types::{Command, PageId};
+use site_types::{Command, LAST_TASK_ID, PageId};
 use std::alloc::Global;
 use wire_model::{CommandForm, PageVerb};
 
-/// The command of a form that a value asks for. Only a creation and a saving take memory.
+/// The command of a form that a value asks for. A creation, a saving, and the definitions of tasks
+/// and workflows take memory, and no other.
 pub(crate) fn command_in(
     alloc: Global,
     form: CommandForm,
@@ -37,6 +39,9 @@ pub(crate) fn command_in(
         CommandForm::Member => or_bad(membership_in(value)),
         CommandForm::Grant => or_bad(grant_in(value)),
         CommandForm::Tick => or_bad(tick_in(value)),
+        CommandForm::DefineTask => task_definition_in(alloc, value),
+        CommandForm::DefineWorkflow => workflow_definition_in(alloc, value),
+        CommandForm::Assign => or_bad(assignment_in(value)),
     }
 }
 
@@ -256,4 +261,38 @@ fn tick_in(value: &Value) -> Option<Command>
     ensures { result ≡ tick_in (view value.now) }
 {
     has_exactly(value, &[]).then_some(Command::Tick)
+}
+
+/// The definition of a task that a value asks for.
+fn task_definition_in(alloc: Global, value: &Value) -> Result<Command, ContentFault>
+    ensures { Reads result (task_definition_in (view value.now)) }
+{
+    if !has_exactly(value, &["groups"]) {
+        return Err(ContentFault::Bad);
+    }
+    let groups = groups_at(alloc, value)?;
+    Ok(Command::DefineTask { groups })
+}
+
+/// The definition of a workflow that a value asks for.
+fn workflow_definition_in(alloc: Global, value: &Value) -> Result<Command, ContentFault>
+    ensures { Reads result (workflow_definition_in (view value.now)) }
+{
+    if !has_exactly(value, &["tasks"]) {
+        return Err(ContentFault::Bad);
+    }
+    let tasks = ids_at(alloc, value, "tasks", LAST_TASK_ID)?;
+    Ok(Command::DefineWorkflow { tasks })
+}
+
+/// The workflow of a page, or its end, that a value asks for.
+fn assignment_in(value: &Value) -> Option<Command>
+    ensures { result ≡ assignment_in (view value.now) }
+{
+    if !has_exactly(value, &["page", "workflow"]) {
+        return None;
+    }
+    let page = id_at(value, "page")?;
+    let workflow = workflow_at(value)?;
+    Some(Command::Assign { page, workflow })
 }

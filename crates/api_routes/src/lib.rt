@@ -7,6 +7,7 @@ mod call;
 mod digest;
 mod form;
 mod id;
+mod ids;
 mod member;
 mod path;
 mod router;

@@ -3,7 +3,7 @@ ghost use Rattle.std.specs.Prelude.{◌≡◌};
 ghost use Rattle.serde_json.specs.View.{view};
 ghost use Rattle.block_content.specs.Reads.{Reads};
 ghost use Rattle.wire_model.specs.Times.{time_of, time_or_none, time_at};
-ghost use Rattle.wire_model.specs.Forms.{id_at, slug_at, content_at, position_at, truth_at, user_at, group_at, permission_at, digest_at};
+ghost use Rattle.wire_model.specs.Forms.{id_at, slug_at, content_at, position_at, truth_at, user_at, group_at, permission_at, digest_at, workflow_at};
 
 use crate::digest::written_digest;
 use crate::table::named;
@@ -11,8 +11,8 @@ use block_content::members::{member, page_id, slug, text_at, truth, whole_within
 use block_content::{ContentFault, read_content};
 use serde_json::Value;
 use site_types::{
-    Content, Digest, GroupId, LAST_GROUP_ID, LAST_USER_ID, Moment, PageId, Permission, Position,
-    Slug, UserId,
+    Content, Digest, GroupId, LAST_GROUP_ID, LAST_USER_ID, LAST_WORKFLOW_ID, Moment, PageId,
+    Permission, Position, Slug, UserId, WorkflowId,
 };
 use std::alloc::Global;
 use time_table::read_time;
@@ -71,6 +71,14 @@ pub(crate) fn group_at(value: &Value) -> Option<GroupId>
 {
     let number = whole_within(member(value, "group")?, 1, LAST_GROUP_ID as u64)?;
     GroupId::new(number as u32)
+}
+
+/// The workflow at the member workflow, which is none at 0.
+pub(crate) fn workflow_at(value: &Value) -> Option<Option<WorkflowId>>
+    ensures { result ≡ workflow_at (view value.now) }
+{
+    let number = whole_within(member(value, "workflow")?, 0, LAST_WORKFLOW_ID as u64)?;
+    Some(WorkflowId::new(number as u32))
 }
 
 /// The digest at the member digest.

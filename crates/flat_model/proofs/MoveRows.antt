@@ -2,7 +2,6 @@
 use Rattle.std.proofs.Common.{◌≡◌, ℕ, suc, ◌+◌, ◌≤◌, Bool, true, false, nat_eq, List, ◌++◌, Some, length, take, drop, refl, ap, sym, ◌∙◌, subst, arith, length-drop, length-append}
 use Prim.Native.Nat.{zero}
 use Rattle.std.proofs.lemmas.List.{drop-drop, length-take-le}
-use Rattle.std.proofs.lemmas.Bool.Decides.{nat_tests}
 use Rattle.std.specs.List.{AllByRecursion}
 use Rattle.page_tree.specs.Rows.{row_with, comes_before}
 use Rattle.step_path.specs.Path.{BeginsWith}
@@ -14,7 +13,6 @@ use Rattle.page_store.specs.Search.{begins, leading}
 use Rattle.page_store.specs.declared.plan.MovePlan.{MovePlan}
 use Rattle.page_store.proofs.AllLemmas.{All-weaker}
 use Rattle.page_store.proofs.CutLemmas.{cut_window}
-use Rattle.page_store.proofs.KeptLemmas.{found_passes}
 use Rattle.page_store.proofs.Leading.{leading-le-length}
 use Rattle.page_store.proofs.PathOrder.{begins-self, begins-BeginsWith, BeginsWith-begins}
 use Rattle.page_store.proofs.RangeLemmas.{drop_at_place, own_place, range_at, within_from_get}

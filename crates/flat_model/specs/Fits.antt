@@ -3,7 +3,7 @@ use Rattle.std.specs.Prelude.{◌≡◌, ℕ, ◌<◌, ◌≤◌, List, [], ◌�
 use Rattle.std.specs.List.{AllByRecursion}
 use Rattle.page_tree.specs.Rows.{row_with}
 use Rattle.site_ids.specs.Ids.{IsPageId}
-use Rattle.site_ids.specs.declared.ids.TheConstants.{LAST_USER_ID, LAST_GROUP_ID}
+use Rattle.site_ids.specs.declared.ids.TheConstants.{LAST_USER_ID, LAST_GROUP_ID, LAST_TASK_ID, LAST_WORKFLOW_ID}
 use Rattle.site_types.specs.declared.body.Body.{Body}
 use Rattle.site_types.specs.declared.page_row.PageRow.{PageRow}
 use Rattle.site_types.specs.declared.revision.Revision.{Revision}
@@ -15,6 +15,7 @@ use Rattle.page_store.specs.declared.plan.MovePlan.{MovePlan}
 use Rattle.site_model.specs.Rights.{user_of}
 use Rattle.tree_model.specs.Changes.{path_in}
 use Rattle.publishing.specs.Laws.{IsUntimed}
+use Rattle.workflow.specs.Flows.{IsTask, IsWorkflow}
 use Rattle.flat_model.specs.Lists.{PeopleLists, PartLists}
 use Rattle.flat_model.specs.Made.{Pages, with_page, with_move, outside, rows_made, people_left}
 use Rattle.flat_model.specs.declared.change.Change.{Change}
@@ -22,6 +23,8 @@ use Rattle.flat_model.specs.declared.change.TreeChange.{TreeChange}
 use Rattle.flat_model.specs.declared.change.TreeChange.TheVariants as trees
 use Rattle.flat_model.specs.declared.change.PeopleChange.{PeopleChange}
 use Rattle.flat_model.specs.declared.change.PeopleChange.TheVariants as people
+use Rattle.flat_model.specs.declared.change.FlowChange.{FlowChange}
+use Rattle.flat_model.specs.declared.change.FlowChange.TheVariants as flows
 
 -- each new row may be put in when its turn comes, and is neither live nor scheduled
 abbrev pub PagesFit : List (PageRow × List ℕ) → Pages → Type 0
@@ -69,6 +72,14 @@ PeopleFit people.Group lists = lists.next_group ≤ LAST_GROUP_ID
 PeopleFit (people.Member user group on) lists = Unit {0}
 PeopleFit (people.Grant group page permission on) lists = Unit {0}
 
+-- an id is left for a task or a workflow that comes: a task has 1 to 16 distinct groups, rising, and a
+-- workflow 1 to 16 tasks that are there
+abbrev pub FlowsFit : FlowChange → PartLists → Type 0
+FlowsFit flows.Nothing lists = Unit {0}
+FlowsFit (flows.Task groups) lists = (length lists.tasks < LAST_TASK_ID) × IsTask groups
+FlowsFit (flows.Workflow tasks) lists =
+    (length lists.workflows < LAST_WORKFLOW_ID) × IsWorkflow (length lists.tasks) tasks
+
 -- A change that lists can take. The revisions that come have greater ids than those that go, too.
 pub record Fits (lists : PartLists) (change : Change) : Type 0 where
   pub tree : TreeFits change.tree lists.pages
@@ -76,3 +87,4 @@ pub record Fits (lists : PartLists) (change : Change) : Type 0 where
   pub gone : AllByRecursion IsPageId change.gone
   pub revisions : RevisionsFit change.revisions lists.revisions
   pub people : PeopleFit change.people (people_left change.gone lists.people)
+  pub flows : FlowsFit change.flows lists

@@ -22,6 +22,8 @@ use Rattle.flat_model.specs.declared.change.TreeChange.{TreeChange}
 use Rattle.flat_model.specs.declared.change.TreeChange.TheVariants as trees
 use Rattle.flat_model.specs.declared.change.PeopleChange.{PeopleChange}
 use Rattle.flat_model.specs.declared.change.PeopleChange.TheVariants as people
+use Rattle.flat_model.specs.declared.change.FlowChange.{FlowChange}
+use Rattle.flat_model.specs.declared.change.FlowChange.TheVariants as flows
 use Rattle.flat_model.specs.declared.change.Purge.{Purge}
 
 -- the rows of pages
@@ -114,8 +116,21 @@ people_made (people.Member user group on) lists =
 people_made (people.Grant group page permission on) lists =
     record lists { grants = grants_with lists.grants group page permission on }
 
+-- the tasks, with one that comes last
+abbrev pub tasks_made : FlowChange → List (List ℕ) → List (List ℕ)
+tasks_made flows.Nothing tasks = tasks
+tasks_made (flows.Task groups) tasks = tasks ++ groups ∷ []
+tasks_made (flows.Workflow chain) tasks = tasks
+
+-- the workflows, with one that comes last
+abbrev pub workflows_made : FlowChange → List (List ℕ) → List (List ℕ)
+workflows_made flows.Nothing workflows = workflows
+workflows_made (flows.Task groups) workflows = workflows
+workflows_made (flows.Workflow chain) workflows = workflows ++ chain ∷ []
+
 -- The lists after a change: the rows change, and then fields of pages; what belongs to pages that go
--- goes, and what a purge takes; then revisions come, and users, groups, memberships and grants change.
+-- goes, and what a purge takes; then revisions come, and users, groups, memberships and grants change,
+-- and tasks and workflows.
 abbrev pub made : Change → PartLists → PartLists
 made change lists =
     record lists {
@@ -123,6 +138,8 @@ made change lists =
       revisions = purge_left change.purge (revisions_left change.gone lists.revisions)
           ++ change.revisions;
       people = people_made change.people (people_left change.gone lists.people);
+      tasks = tasks_made change.flows lists.tasks;
+      workflows = workflows_made change.flows lists.workflows;
       time = change.time;
       next_page = change.next_page;
       next_revision = change.next_revision;

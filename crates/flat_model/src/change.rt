@@ -1,6 +1,6 @@
 //! What becomes of each store.
 ghost use Rattle.std.specs.Prelude.{◌≡◌, IfOk};
-ghost use Rattle.flat_model.specs.Single.{tree_change, people_change, body_change};
+ghost use Rattle.flat_model.specs.Single.{tree_change, people_change, flow_change, body_change};
 
 use page_store::{MovePlan, Urls};
 use site_types::{
@@ -25,6 +25,8 @@ pub struct Change {
     pub revisions: Items<Revision>,
     /// What becomes of users, groups, memberships and grants.
     pub people: PeopleChange,
+    /// What becomes of tasks and workflows.
+    pub flows: FlowChange,
     /// The time then.
     pub time: Moment,
     /// The number of the next page then.
@@ -117,6 +119,23 @@ pub enum PeopleChange {
     },
 }
 
+/// What becomes of tasks and workflows: at most one comes, and none ever goes.
+#[derive(Drop)]
+pub enum FlowChange {
+    /// Nothing.
+    Nothing,
+    /// A task comes.
+    Task {
+        /// Its groups, rising.
+        groups: Ids,
+    },
+    /// A workflow comes.
+    Workflow {
+        /// Its tasks, in order.
+        tasks: Ids,
+    },
+}
+
 impl Change {
     /// A change of the rows of pages and of the time, with these next ids. It takes no memory.
     pub fn of_tree(
@@ -135,6 +154,7 @@ impl Change {
             purge: None,
             revisions: Items::from_vec(Vec::new(alloc)),
             people: PeopleChange::Nothing,
+            flows: FlowChange::Nothing,
             time,
             next_page,
             next_revision,
@@ -159,6 +179,31 @@ impl Change {
             purge: None,
             revisions: Items::from_vec(Vec::new(alloc)),
             people,
+            flows: FlowChange::Nothing,
+            time,
+            next_page,
+            next_revision,
+        }
+    }
+
+    /// A change of tasks and workflows and of the time, with these next ids. It takes no memory.
+    pub fn of_flows(
+        alloc: Global,
+        flows: FlowChange,
+        time: Moment,
+        next_page: u32,
+        next_revision: u32,
+    ) -> Change
+        ensures { result ≡ flow_change flows time next_page next_revision }
+    {
+        Change {
+            tree: TreeChange::Nothing,
+            bodies: Items::from_vec(Vec::new(alloc)),
+            gone: Ids::from_vec(Vec::new(alloc)),
+            purge: None,
+            revisions: Items::from_vec(Vec::new(alloc)),
+            people: PeopleChange::Nothing,
+            flows,
             time,
             next_page,
             next_revision,

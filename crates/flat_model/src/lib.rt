@@ -3,4 +3,4 @@
 
 mod change;
 
-pub use change::{Change, PeopleChange, Purge, TreeChange};
+pub use change::{Change, FlowChange, PeopleChange, Purge, TreeChange};

@@ -8,7 +8,6 @@ use Rattle.site_ids.specs.declared.ids.TheConstants.{LAST_REVISION_ID}
 use Rattle.site_types.specs.Content.{ContentValue, FitsLimits, content_form}
 use Rattle.site_types.specs.declared.body.Body.{Body}
 use Rattle.site_types.specs.declared.command.Command.TheVariants as commands
-use Rattle.site_types.specs.declared.moderation.Moderation.{Moderation}
 use Rattle.site_types.specs.declared.refusal.Refusal.{Refusal}
 use Rattle.site_types.specs.declared.refusal.Refusal.TheVariants.{NoDesk, NothingNew, IdsFull, ContentFull}
 use Rattle.site_types.specs.declared.reply.Reply.TheVariants.{Id}
@@ -21,7 +20,6 @@ use Rattle.site_model.specs.Desks.{desk_page, is_filed, file_rules, file_text, f
 use Rattle.site_model.specs.Laws.{IsAtDesk, FitsDesk}
 use Rattle.site_model.specs.Limits.{MAX_CONTENTS, contents_length}
 use Rattle.site_model.specs.Losing.{suspects_of, shuts}
-use Rattle.site_model.specs.Moderations.{after_filing}
 use Rattle.site_model.specs.Sound.{IsRegular}
 use Rattle.site_model.specs.Step.{rules, step_by}
 use Rattle.site_model.specs.Step as steps
@@ -40,13 +38,14 @@ use Rattle.grants.specs.declared.fault.Fault.TheVariants.{Refused, Memory}
 use Rattle.grants.specs.declared.part.TreePart.{TreePart}
 use Rattle.grants.specs.declared.plan.Plan.{Plan}
 use Rattle.grants.proofs.StepLemmas.{own_refuses, pairs_agree}
-use Rattle.flow_edits.specs.Asked.{IsAsked}
-use Rattle.flow_edits.specs.Plans.{Plans, Tells, ending_plan, revision_of, filed_body, filing_plan}
+use Rattle.moderating.specs.Asked.{IsAsked}
+use Rattle.moderating.specs.Plans.{Plans, Tells, ending_plan}
+use Rattle.flow_edits.specs.Plans.{revision_of, filed_body, filing_plan}
 use Rattle.flat_model.proofs.BodyRows.{rebodied_rows}
-use Rattle.flat_model.proofs.KeptPages.{kept_there, page_has}
+use Rattle.flat_model.proofs.KeptPages.{kept_there}
 use Rattle.flow_edits.proofs.OpenPlans.{is_callers, callers_page}
-use Rattle.flow_edits.proofs.Planned.{planned, prepared, row_there}
-use Rattle.flow_edits.proofs.Steps.{part_left, ends_step}
+use Rattle.moderating.proofs.Planned.{planned, prepared, row_there}
+use Rattle.moderating.proofs.Steps.{part_left, ends_step}
 
 -- the weight of revisions is the length of their contents
 pub weights_are : (revisions : List Revision) → total_weight revisions ≡ contents_length revisions
@@ -126,11 +125,6 @@ any_has test P R (x ∷ xs) is all gives =
     by true passes h later = gives x passes all.0
     by false passes h later = later h
 
--- without a moderation there is none afterwards
-still_none : (id : ℕ) (moderation : Option Moderation) → moderation ≡ None →
-    after_filing id moderation ≡ moderation
-still_none id moderation is = ap (after_filing id) is ∙ sym is
-
 module _ (kept room : TreePart) (part : worlds.TreePart) (desk : Option ContentValue)
     (now caller page : ℕ) (go_live expire : Option ℕ)
     (asked : IsAsked kept part desk caller (commands.File page go_live expire)) where
@@ -149,7 +143,7 @@ module _ (kept room : TreePart) (part : worlds.TreePart) (desk : Option ContentV
   pub file_none : desk ≡ None →
       step_by part desk now caller (commands.File page go_live expire) ≡ Err NoDesk
   file_none none =
-      own_refuses part desk now caller (commands.File page go_live expire) NoDesk asked.front refl
+      own_refuses part desk now caller (commands.File page go_live expire) NoDesk asked.front
       (file_own ∙ ap (file_rules part now caller page go_live expire) none)
 
   module _ (text : ContentValue) (some : desk ≡ Some text) where
@@ -158,7 +152,7 @@ module _ (kept room : TreePart) (part : worlds.TreePart) (desk : Option ContentV
         Tells (file_rules part now caller page go_live expire (Some text)) IsRight (Err fault) →
         Prepares part desk now caller (commands.File page go_live expire) room (Err fault)
     file_refused IsRight (Refused refusal) is =
-        own_refuses part desk now caller (commands.File page go_live expire) refusal asked.front refl
+        own_refuses part desk now caller (commands.File page go_live expire) refusal asked.front
         (file_own ∙ (ap (file_rules part now caller page go_live expire) some ∙ is))
     file_refused IsRight Memory is = tt
 
@@ -199,18 +193,7 @@ module _ (kept room : TreePart) (part : worlds.TreePart) (desk : Option ContentV
         let new : Revision = filed_revision part now caller page text go_live expire in
         let after = with_filed part now caller page text go_live expire in
         let ended = filter (is_callers page caller) part.desk_pairs in
-        let change : Body → Body = λ (one : Body). record one {
-          latest = Some part.next_revision;
-          moderation = after_filing part.next_revision one.moderation;
-        } in
-        let unmoderated : body.moderation ≡ None =
-        page_has (λ id own. own.moderation ≡ None) page part.tree body
-        ready.reached.none_yet.no_moderation own_page.1 found in
-        let same : change body ≡ filed_body body part.next_revision =
-        ap (λ (m : Option Moderation). record body {
-          latest = Some part.next_revision;
-          moderation = m;
-        }) (still_none part.next_revision body.moderation unmoderated) in
+        let change : Body → Body = λ (one : Body). filed_body one part.next_revision in
         let rise = ready.reached.sound.desks.desks_rise in
         let kept_out = none_out (λ (revision : Revision). revision.page) part.revisions in
         let all : Change = record (body_change page (filed_body body part.next_revision)
@@ -223,7 +206,7 @@ module _ (kept room : TreePart) (part : worlds.TreePart) (desk : Option ContentV
         (ending_plan (Id part.next_revision) pages all))
         (callers_page page caller part.desk_pairs rise at_desk.opened)
         (planned command room part after desk now caller (Id part.next_revision) ended all ready
-        (ends_step part desk now caller command after (Id part.next_revision) true asked.front refl
+        (ends_step part desk now caller command after (Id part.next_revision) true asked.front
         (file_own ∙ (ap (file_rules part now caller page go_live expire) some ∙ clear))
         (file_done ∙ ap (file_text part now caller page go_live expire) some) refl ended file_ends
         (pairs_agree (is_callers page caller) part.desk_pairs rise))
@@ -233,14 +216,16 @@ module _ (kept room : TreePart) (part : worlds.TreePart) (desk : Option ContentV
           gone = tt;
           revisions = (ready.reached.sound.revisions.revision_ids, tt);
           people = tt;
+          flows = tt;
         })
         (lists_are
         (left_by (ending_plan (Id part.next_revision) (pages_of ended) all) (lists_of part))
         (lists_of (part_left after part.desk_pairs ended))
         (sym (rebodied_rows page change body (filed_body body part.next_revision) part.tree
-        ready.reached.sound.pages.distinct found same))
+        ready.reached.sound.pages.distinct found refl))
         (ap (λ (rs : List Revision). rs ++ new ∷ []) kept_out) (quiet_people (people_of part)) refl
-        refl refl refl asked.given.ready.stands.next_page refl) (omega arith) spare (omega arith)))
+        refl refl refl asked.given.ready.stands.next_page refl) (omega arith) spare (omega arith)
+        (omega arith)))
 
     -- what is told of it
     pub file_prepared : IsReady room part →
@@ -277,10 +262,10 @@ past_last last next some none = by (nat_lt last next) refl
 
 -- whether a text is filed, as it is looked up
 pub filed_as : (text : ContentValue) (go_live expire : Option ℕ) (found latest : Option Revision)
-    (told known : Bool) → found ≡ latest → told ≡ is_filed text go_live expire found →
-    told ≡ known → is_filed text go_live expire latest ≡ known
-filed_as text go_live expire found latest told known same told_is known_is =
-    ap (is_filed text go_live expire) (sym same) ∙ (sym told_is ∙ known_is)
+    (answer known : Bool) → found ≡ latest → answer ≡ is_filed text go_live expire found →
+    answer ≡ known → is_filed text go_live expire latest ≡ known
+filed_as text go_live expire found latest answer known same answer_is known_is =
+    ap (is_filed text go_live expire) (sym same) ∙ (sym answer_is ∙ known_is)
 
 -- the revision that is made is the one that is filed
 pub filed_is_made : (part : worlds.TreePart) (now caller page : ℕ) (go_live expire : Option ℕ)

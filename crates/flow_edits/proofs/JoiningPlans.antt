@@ -29,10 +29,10 @@ use Rattle.grants.specs.declared.part.TreePart.{TreePart}
 use Rattle.grants.specs.declared.plan.Plan.{Plan}
 use Rattle.grants.proofs.StandingLemmas.{same_ready}
 use Rattle.grants.proofs.StepLemmas.{own_refuses, pairs_agree}
-use Rattle.flow_edits.specs.Asked.{IsAsked}
+use Rattle.moderating.specs.Asked.{IsAsked}
 use Rattle.flow_edits.specs.People.{ReadiesPlan, member_lost, grant_lost}
 use Rattle.flow_edits.proofs.PeoplePlans.{people_planned}
-use Rattle.flow_edits.proofs.Steps.{Agree, none_end, ends_step}
+use Rattle.moderating.proofs.Steps.{Agree, none_end, ends_step}
 
 -- a list with something set that is not so already is the list after it
 set_so : {X : Type 0} (already : Bool) (before after : X) → already ≡ false →
@@ -112,7 +112,7 @@ module _ (kept : TreePart) (part : worlds.TreePart) (desk : Option ContentValue)
         step_by part desk now caller (commands.Member user group on) ≡ Err NothingNew
     member_known is =
         own_refuses part desk now caller (commands.Member user group on) NothingNew asked.front
-        refl (member_own ∙ rw (agree_is on (list_any (is_membership user group) part.members)
+        (member_own ∙ rw (agree_is on (list_any (is_membership user group) part.members)
         (ap (λ t. beq t on) joined ∙ is)) refl)
 
     -- it is not so already
@@ -128,7 +128,7 @@ module _ (kept : TreePart) (part : worlds.TreePart) (desk : Option ContentValue)
           step_by part desk now caller (commands.Member user group on) ≡ Err (NoName kinds.User)
       member_no_user none =
           own_refuses part desk now caller (commands.Member user group on) (NoName kinds.User)
-          asked.front refl (member_own ∙ rw (member_new, none) refl)
+          asked.front (member_own ∙ rw (member_new, none) refl)
 
       -- no such group
       pub member_no_group : is_given part.next_user user ≡ true →
@@ -136,7 +136,7 @@ module _ (kept : TreePart) (part : worlds.TreePart) (desk : Option ContentValue)
           step_by part desk now caller (commands.Member user group on) ≡ Err (NoName kinds.Group)
       member_no_group there none =
           own_refuses part desk now caller (commands.Member user group on) (NoName kinds.Group)
-          asked.front refl (member_own ∙ rw (member_new, there, none) refl)
+          asked.front (member_own ∙ rw (member_new, there, none) refl)
 
       -- its plan
       pub member_planned : (mid after : TreePart) → IsSame kept mid → IsSame mid after →
@@ -151,7 +151,7 @@ module _ (kept : TreePart) (part : worlds.TreePart) (desk : Option ContentValue)
           (changes.Member user group on) (member_lost part now user group on)
           (same_ready kept mid part same asked.given.ready) later
           (ends_step part desk now caller (commands.Member user group on)
-          (with_member part now user group on) replies.Done false asked.front refl
+          (with_member part now user group on) replies.Done false asked.front
           (member_own ∙ rw (member_new, there, grouped) refl) member_done refl
           (member_lost part now user group on) (ends on) (agrees on)) tt
           (ap (λ (members : List Member). record (people_of part) { members = members })
@@ -201,7 +201,7 @@ module _ (kept : TreePart) (part : worlds.TreePart) (desk : Option ContentValue)
         step_by part desk now caller (commands.Grant group page permission on) ≡ Err NothingNew
     grant_known is =
         own_refuses part desk now caller (commands.Grant group page permission on) NothingNew
-        asked.front refl (grant_own ∙ rw (agree_is on
+        asked.front (grant_own ∙ rw (agree_is on
         (list_any (is_grant group page permission) part.grants)
         (ap (λ t. beq t on) granted ∙ is)) refl)
 
@@ -221,7 +221,7 @@ module _ (kept : TreePart) (part : worlds.TreePart) (desk : Option ContentValue)
             ≡ Err (NoName kinds.Group)
         grant_no_group none =
             own_refuses part desk now caller (commands.Grant group page permission on)
-            (NoName kinds.Group) asked.front refl (grant_own ∙ rw (grant_new, none) refl)
+            (NoName kinds.Group) asked.front (grant_own ∙ rw (grant_new, none) refl)
 
         -- no room for it
         pub grant_full : is_given part.next_group group ≡ true →
@@ -229,7 +229,7 @@ module _ (kept : TreePart) (part : worlds.TreePart) (desk : Option ContentValue)
             step_by part desk now caller (commands.Grant group page permission on) ≡ Err IdsFull
         grant_full there full =
             own_refuses part desk now caller (commands.Grant group page permission on) IdsFull
-            asked.front refl (grant_own ∙ rw (grant_new, there, full) refl)
+            asked.front (grant_own ∙ rw (grant_new, there, full) refl)
 
         -- its plan
         pub grant_planned : (mid after : TreePart) → IsSame kept mid → IsSame mid after →
@@ -246,7 +246,7 @@ module _ (kept : TreePart) (part : worlds.TreePart) (desk : Option ContentValue)
             (changes.Grant group page permission on) (grant_lost part now group page permission on)
             (same_ready kept mid part same asked.given.ready) later
             (ends_step part desk now caller (commands.Grant group page permission on)
-            (with_grant part now group page permission on) replies.Done false asked.front refl
+            (with_grant part now group page permission on) replies.Done false asked.front
             (grant_own ∙ rw (grant_new, there, room) refl) grant_done refl
             (grant_lost part now group page permission on) (ends on) (agrees on)) tt
             (ap (λ (grants : List Grant). record (people_of part) { grants = grants })

@@ -1,5 +1,3 @@
-pub mod Steps
-pub mod Planned
 pub mod Facts
 pub mod PublishPlans
 pub mod LockPlans

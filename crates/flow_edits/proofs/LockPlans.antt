@@ -23,10 +23,10 @@ use Rattle.grants.specs.declared.fault.Fault.{Fault}
 use Rattle.grants.specs.declared.part.TreePart.{TreePart}
 use Rattle.grants.specs.declared.plan.Plan.{Plan}
 use Rattle.grants.proofs.StepLemmas.{own_refuses, pairs_agree}
-use Rattle.flow_edits.specs.Asked.{IsAsked}
-use Rattle.flow_edits.specs.Plans.{ending_plan, Plans}
-use Rattle.flow_edits.proofs.Planned.{prepared, body_planned, fields_same}
-use Rattle.flow_edits.proofs.Steps.{none_end, ends_step}
+use Rattle.moderating.specs.Asked.{IsAsked}
+use Rattle.moderating.specs.Plans.{ending_plan, Plans}
+use Rattle.moderating.proofs.Planned.{prepared, body_planned, fields_same}
+use Rattle.moderating.proofs.Steps.{none_end, ends_step}
 
 -- there is none where there is not some
 nobody : (by : Option ℕ) (t : Bool) → is_some by ≡ t → is_none by ≡ not t
@@ -50,7 +50,7 @@ module _ (kept : TreePart) (part : worlds.TreePart) (desk : Option ContentValue)
   pub lock_idle : caller ≡ 0 →
       step_by part desk now caller (commands.Lock page) ≡ Err NothingNew
   lock_idle is =
-      own_refuses part desk now caller (commands.Lock page) NothingNew asked.front refl
+      own_refuses part desk now caller (commands.Lock page) NothingNew asked.front
       (lock_own ∙ ap lock_rules is)
 
   -- what is told of any other's lock
@@ -73,7 +73,7 @@ module _ (kept : TreePart) (part : worlds.TreePart) (desk : Option ContentValue)
       ready.stands.next_page ready.stands.next_revision
       (ends_step part desk now caller (commands.Lock page)
       (record part { time = worlds.time_at part now; tree = rebodied page change part.tree })
-      replies.Done false asked.front refl (lock_own ∙ rw (told_apart caller 0 user) refl) lock_done
+      replies.Done false asked.front (lock_own ∙ rw (told_apart caller 0 user) refl) lock_done
       refl ended
       (λ left told is. lock_ends_others part left told desk now caller page ready.reached.sound is)
       (pairs_agree
@@ -104,7 +104,7 @@ module _ (kept : TreePart) (part : worlds.TreePart) (desk : Option ContentValue)
   pub unlock_idle : is_some body.locked_by ≡ false →
       step_by part desk now caller (commands.Unlock page) ≡ Err NothingNew
   unlock_idle is =
-      own_refuses part desk now caller (commands.Unlock page) NothingNew asked.front refl
+      own_refuses part desk now caller (commands.Unlock page) NothingNew asked.front
       (unlock_own ∙ rw (found, nobody body.locked_by false is) refl)
 
   -- what is told of one that is locked
@@ -125,6 +125,6 @@ module _ (kept : TreePart) (part : worlds.TreePart) (desk : Option ContentValue)
       ready.stands.next_page ready.stands.next_revision
       (ends_step part desk now caller (commands.Unlock page)
       (record part { time = worlds.time_at part now; tree = rebodied page change part.tree })
-      replies.Done false asked.front refl
+      replies.Done false asked.front
       (unlock_own ∙ rw (found, nobody body.locked_by true locked) refl) unlock_done refl []
       unlock_ends (none_end part.desk_pairs))) is

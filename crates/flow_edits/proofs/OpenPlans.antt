@@ -30,10 +30,11 @@ use Rattle.grants.specs.declared.fault.Fault.{Fault}
 use Rattle.grants.specs.declared.fault.Fault.TheVariants.{Refused, Memory}
 use Rattle.grants.specs.declared.part.TreePart.{TreePart}
 use Rattle.grants.proofs.StepLemmas.{own_refuses, passed_step, pairs_agree}
-use Rattle.flow_edits.specs.Asked.{IsAsked}
-use Rattle.flow_edits.specs.Plans.{Tells, ending_plan, opening_plan}
-use Rattle.flow_edits.proofs.Planned.{planned}
-use Rattle.flow_edits.proofs.Steps.{part_left, ends_step}
+use Rattle.moderating.specs.Asked.{IsAsked}
+use Rattle.moderating.specs.Plans.{Tells, ending_plan}
+use Rattle.flow_edits.specs.Plans.{opening_plan}
+use Rattle.moderating.proofs.Planned.{planned}
+use Rattle.moderating.proofs.Steps.{part_left, ends_step}
 
 -- a desk is open on the page
 pub open_taken : (part : worlds.TreePart) (page user : ℕ) →
@@ -101,7 +102,7 @@ module _ (kept room : TreePart) (part : worlds.TreePart) (desk : Option ContentV
       Tells (open_rules part page) IsRight (Err fault) →
       Prepares part desk now caller (commands.OpenDesk page) room (Err fault)
   open_refused IsRight (Refused refusal) is =
-      own_refuses part desk now caller (commands.OpenDesk page) refusal asked.front refl
+      own_refuses part desk now caller (commands.OpenDesk page) refusal asked.front
       (open_own ∙ is)
   open_refused IsRight Memory is = tt
 
@@ -138,7 +139,7 @@ module _ (kept room : TreePart) (part : worlds.TreePart) (desk : Option ContentV
     open_step =
         let made = settled caller (Some page) opened in
         let whole : step_by part desk now caller (commands.OpenDesk page) ≡ Ok made =
-        passed_step part desk now caller (commands.OpenDesk page) asked.front refl (open_own ∙ clear)
+        passed_step part desk now caller (commands.OpenDesk page) asked.front (open_own ∙ clear)
         ∙ ap (λ (o : Option ContentValue). Ok (settled caller (Some page) (record {
           part = record part { time = worlds.time_at part now };
           reply = Done;
@@ -169,7 +170,14 @@ module _ (kept room : TreePart) (part : worlds.TreePart) (desk : Option ContentV
               shut = refl;
               no_text = refl;
               fits = record {
-                change = record { tree = tt; bodies = tt; gone = tt; revisions = tt; people = tt };
+                change = record {
+                  tree = tt;
+                  bodies = tt;
+                  gone = tt;
+                  revisions = tt;
+                  people = tt;
+                  flows = tt;
+                };
                 opened = none_open page part.desk_pairs (free_page part page clear);
               };
               leads = lists_are
@@ -182,6 +190,7 @@ module _ (kept room : TreePart) (part : worlds.TreePart) (desk : Option ContentV
               rows = omega arith;
               revisions = omega arith;
               people = omega arith;
+              flows = omega arith;
               desks = spare;
             };
           };
@@ -243,7 +252,7 @@ module _ (kept : TreePart) (part : worlds.TreePart) (desk : Option ContentValue)
   -- the caller has no desk there
   pub shut_none : desk ≡ None → step_by part desk now caller (commands.ShutDesk page) ≡ Err NoDesk
   shut_none none =
-      own_refuses part desk now caller (commands.ShutDesk page) NoDesk asked.front refl
+      own_refuses part desk now caller (commands.ShutDesk page) NoDesk asked.front
       (shut_own ∙ ap no_desk none)
 
   -- the caller's own desk ends
@@ -280,11 +289,11 @@ module _ (kept : TreePart) (part : worlds.TreePart) (desk : Option ContentValue)
       (ending_plan Done pages change))
       (callers_page page caller part.desk_pairs rise (shut_there text some))
       (planned (commands.ShutDesk page) kept part after desk now caller Done ended change ready
-      (ends_step part desk now caller (commands.ShutDesk page) after Done true asked.front refl
+      (ends_step part desk now caller (commands.ShutDesk page) after Done true asked.front
       (shut_own ∙ ap no_desk some) shut_done refl ended shut_ends
       (pairs_agree (is_callers page caller) part.desk_pairs rise))
-      (record { tree = tt; bodies = tt; gone = tt; revisions = tt; people = tt })
+      (record { tree = tt; bodies = tt; gone = tt; revisions = tt; people = tt; flows = tt })
       (lists_are (left_by (ending_plan Done (pages_of ended) change) (lists_of part))
       (lists_of (part_left after part.desk_pairs ended)) refl (quiet_revisions part.revisions)
       (quiet_people (people_of part)) refl refl refl time_is ready.stands.next_page
-      ready.stands.next_revision) (omega arith) (omega arith) (omega arith))
+      ready.stands.next_revision) (omega arith) (omega arith) (omega arith) (omega arith))

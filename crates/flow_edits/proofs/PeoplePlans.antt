@@ -1,6 +1,5 @@
 -- Plans of commands on users and groups: what is refused, and what a plan is that is not.
-use Rattle.std.proofs.Common.{◌≡◌, ◌<◌, ◌≤◌, ◌+◌, ℕ, Bool, true, false, nat_lt, List, [], length, is_some, Option, Some, None, Result, Ok, Err, max, refl, sym, ap, subst, ◌∙◌, arith}
-use Rattle.std.proofs.lemmas.Bool.Decides.{nat_tests}
+use Rattle.std.proofs.Common.{◌≡◌, ◌<◌, ◌≤◌, ◌+◌, ℕ, Bool, true, false, List, [], length, is_some, Option, Some, None, Result, Ok, Err, max, refl, sym, ap, subst, ◌∙◌, arith}
 use Rattle.site_ids.specs.declared.ids.TheConstants.{LAST_USER_ID, LAST_GROUP_ID}
 use Rattle.site_types.specs.Content.{ContentValue}
 use Rattle.site_types.specs.declared.command.Command.{Command}
@@ -30,11 +29,12 @@ use Rattle.grants.specs.declared.part.TreePart.{TreePart}
 use Rattle.grants.specs.declared.plan.Plan.{Plan}
 use Rattle.grants.proofs.StandingLemmas.{same_ready}
 use Rattle.grants.proofs.StepLemmas.{own_refuses}
-use Rattle.flow_edits.specs.Asked.{IsAsked}
+use Rattle.moderating.specs.Asked.{IsAsked}
 use Rattle.flow_edits.specs.People.{ReadiesPlan}
-use Rattle.flow_edits.specs.Plans.{ending_plan}
-use Rattle.flow_edits.proofs.Planned.{planned}
-use Rattle.flow_edits.proofs.Steps.{part_left, ending, none_end, ends_step}
+use Rattle.moderating.specs.Plans.{ending_plan}
+use Rattle.moderating.proofs.Counts.{count_full, count_left}
+use Rattle.moderating.proofs.Planned.{planned}
+use Rattle.moderating.proofs.Steps.{part_left, ending, none_end, ends_step}
 
 -- a plan of a command that no rule refuses, where memory did not run out
 pub people_planned : (command : Command) (before after : TreePart) (part left : worlds.TreePart)
@@ -76,7 +76,8 @@ people_planned command before after part left desk now caller reply people ended
       gone = tt;
       revisions = tt;
       people = subst (PeopleFit people) (sym quiet) people_fit;
-    }) leads (omega arith) (omega arith) (omega (arith, room, few)) in
+      flows = tt;
+    }) leads (omega arith) (omega arith) (omega (arith, room, few)) (omega arith) in
     let plan_is : plan ≡ ending_plan reply (pages_of ended) change =
     is.plan_is
     ∙ (ap (λ (r : Reply). ending_plan r shut change) told_is
@@ -90,14 +91,6 @@ people_planned command before after part left desk now caller reply people ended
 none_of : {X : Type 0} (found : Option X) → is_some found ≡ false → found ≡ None
 none_of None is = refl
 none_of (Some x) is = absurd (cc)
-
--- what is no more than before one that is next is no more than the last
-count_full : (last count next : ℕ) → count + 1 ≡ next → last ≤ count → nat_lt last next ≡ true
-count_full last count next is full = grind (arith, nat_tests)
-
--- nor where one is left
-count_left : (last count next : ℕ) → count + 1 ≡ next → count < last → nat_lt last next ≡ false
-count_left last count next is left = grind (arith, nat_tests)
 
 module _ (kept : TreePart) (part : worlds.TreePart) (desk : Option ContentValue)
     (now caller : ℕ) where
@@ -140,7 +133,7 @@ module _ (kept : TreePart) (part : worlds.TreePart) (desk : Option ContentValue)
         step_by part desk now caller (commands.DefineUser superuser digest) ≡ Err NothingNew
     user_known is =
         own_refuses part desk now caller (commands.DefineUser superuser digest) NothingNew
-        asked.front refl (user_own ∙ rw (known, is) refl)
+        asked.front (user_own ∙ rw (known, is) refl)
 
     -- no number is left
     pub user_full : is_some (user_of digest kept.grants.users) ≡ false →
@@ -148,7 +141,7 @@ module _ (kept : TreePart) (part : worlds.TreePart) (desk : Option ContentValue)
         step_by part desk now caller (commands.DefineUser superuser digest) ≡ Err IdsFull
     user_full new full =
         own_refuses part desk now caller (commands.DefineUser superuser digest) IdsFull
-        asked.front refl (user_own ∙ rw (
+        asked.front (user_own ∙ rw (
           known,
           new,
           count_full LAST_USER_ID (length kept.grants.users) part.next_user users_are full,
@@ -171,7 +164,7 @@ module _ (kept : TreePart) (part : worlds.TreePart) (desk : Option ContentValue)
         (with_user part now superuser digest) desk now caller (replies.Id part.next_user)
         (changes.User superuser digest) [] ready same
         (ends_step part desk now caller (commands.DefineUser superuser digest)
-        (with_user part now superuser digest) (replies.Id part.next_user) false asked.front refl
+        (with_user part now superuser digest) (replies.Id part.next_user) false asked.front
         (user_own ∙ rw (
           known,
           new,
@@ -203,7 +196,7 @@ module _ (kept : TreePart) (part : worlds.TreePart) (desk : Option ContentValue)
     pub group_full : LAST_GROUP_ID ≤ kept.grants.groups →
         step_by part desk now caller commands.DefineGroup ≡ Err IdsFull
     group_full full =
-        own_refuses part desk now caller commands.DefineGroup IdsFull asked.front refl
+        own_refuses part desk now caller commands.DefineGroup IdsFull asked.front
         (group_own ∙ rw (count_full LAST_GROUP_ID kept.grants.groups part.next_group
         asked.given.ready.stands.lists.groups full) refl)
 
@@ -218,7 +211,7 @@ module _ (kept : TreePart) (part : worlds.TreePart) (desk : Option ContentValue)
         people_planned commands.DefineGroup kept after part (with_group part now) desk now caller
         (replies.Id part.next_group) changes.Group [] ready same
         (ends_step part desk now caller commands.DefineGroup (with_group part now)
-        (replies.Id part.next_group) false asked.front refl
+        (replies.Id part.next_group) false asked.front
         (group_own ∙ rw (count_left LAST_GROUP_ID kept.grants.groups part.next_group
         ready.stands.lists.groups left) refl) group_done refl [] group_ends
         (none_end part.desk_pairs))

@@ -1,6 +1,6 @@
 -- Publishing, unpublishing and emptying a schedule: what is refused, and what is planned.
-use Rattle.std.proofs.Common.{◌≡◌, ◌||◌, ℕ, Bool, true, false, not, cond, List, [], Option, Some, None, Result, Ok, Err, refl, sym, ap, subst, ◌∙◌}
-use Rattle.std.specs.Option.{option_or, is_none, is_some}
+use Rattle.std.proofs.Common.{◌≡◌, ◌||◌, ◌&&◌, ℕ, Bool, true, false, not, nat_eq, List, [], Option, Some, None, Result, Ok, Err, refl, sym, ap, subst, ◌∙◌}
+use Rattle.std.specs.Option.{is_none, is_some}
 use Rattle.site_types.specs.Content.{ContentValue}
 use Rattle.site_types.specs.declared.body.Body.{Body}
 use Rattle.site_types.specs.declared.command.Command.TheVariants as commands
@@ -11,24 +11,26 @@ use Rattle.site_types.specs.declared.revision.Revision.{Revision}
 use Rattle.site_model.specs.World as worlds
 use Rattle.site_model.specs.Bodies.{rebodied, is_after, latest_of}
 use Rattle.site_model.specs.Losing.{suspects_of, shuts}
+use Rattle.site_model.specs.LosingLaws.{stays_with, desks_lost_with}
 use Rattle.site_model.specs.Moderations.{after_publishing}
-use Rattle.site_model.specs.Publishing.{published_body, has_expired, expires_first, is_out, publish_rules, publish, unpublish_rules, unpublish, unschedule_rules, unschedule}
+use Rattle.site_model.specs.Publishing.{has_expired, expires_first, is_out, publish_rules, publish, unpublish_rules, unpublish, unschedule_rules, unschedule}
 use Rattle.site_model.specs.Step.{rules, step_by}
 use Rattle.site_model.specs.Step as steps
 use Rattle.site_model.specs.Views.{body_of}
+use Rattle.site_model.proofs.LosingAnswers.{publish_ends}
 use Rattle.site_model.proofs.LosingEnds.{ends_none}
-use Rattle.site_model.proofs.LosingFacts.{publish_ends_none}
 use Rattle.flat_model.specs.Single.{body_change}
-use Rattle.grants.specs.Plans.{Prepares, HasPlan}
+use Rattle.grants.specs.Plans.{Prepares, HasPlan, pages_of}
 use Rattle.grants.specs.declared.fault.Fault.{Fault}
 use Rattle.grants.specs.declared.part.TreePart.{TreePart}
 use Rattle.grants.specs.declared.plan.Plan.{Plan}
-use Rattle.grants.proofs.StepLemmas.{own_refuses}
-use Rattle.flow_edits.specs.Asked.{IsAsked}
-use Rattle.flow_edits.specs.Plans.{ending_plan, Plans}
-use Rattle.flow_edits.proofs.Facts.{publish_names, not_moderated}
-use Rattle.flow_edits.proofs.Planned.{prepared, body_planned, fields_same}
-use Rattle.flow_edits.proofs.Steps.{none_end, ends_step}
+use Rattle.grants.proofs.StepLemmas.{own_refuses, pairs_agree}
+use Rattle.moderating.specs.Asked.{IsAsked}
+use Rattle.moderating.specs.Plans.{ending_plan, Plans}
+use Rattle.flow_edits.specs.Plans.{published_by_command}
+use Rattle.moderating.proofs.EventLemmas.{moderation_is}
+use Rattle.moderating.proofs.Planned.{prepared, body_planned, fields_same}
+use Rattle.moderating.proofs.Steps.{none_end, ends_step}
 
 -- there is none where there is not some
 is_absent : (scheduled : Option ℕ) (t : Bool) → is_some scheduled ≡ t → is_none scheduled ≡ not t
@@ -36,48 +38,6 @@ is_absent None true is = absurd (cc)
 is_absent None false is = refl
 is_absent (Some revision) true is = refl
 is_absent (Some revision) false is = absurd (cc)
-
--- without a moderation there is none afterwards
-still_none : (moderation : Option Moderation) → moderation ≡ None →
-    after_publishing moderation ≡ moderation
-still_none moderation is = ap after_publishing is ∙ sym is
-
--- a page that is not moderated has the fields that publishing gives it
-published_same : (moment : ℕ) (revision : Revision) (body : Body) → body.moderation ≡ None →
-    record (published_body moment revision body) { moderation = after_publishing body.moderation }
-    ≡ published_body moment revision body
-published_same moment revision body none = choice (is_after moment revision.go_live)
-  where
-    choice : (t : Bool) →
-        record (cond t (record body { scheduled = Some revision.id }) (record body {
-          live = true;
-          expired = false;
-          shown = Some revision.id;
-          scheduled = None;
-          first_published = option_or body.first_published (Some moment);
-          last_published = Some moment;
-        })) { moderation = after_publishing body.moderation }
-        ≡ cond t (record body { scheduled = Some revision.id }) (record body {
-          live = true;
-          expired = false;
-          shown = Some revision.id;
-          scheduled = None;
-          first_published = option_or body.first_published (Some moment);
-          last_published = Some moment;
-        })
-    choice true =
-        ap (λ (m : Option Moderation). record body { scheduled = Some revision.id; moderation = m })
-        (still_none body.moderation none)
-    choice false =
-        ap (λ (m : Option Moderation). record body {
-          live = true;
-          expired = false;
-          shown = Some revision.id;
-          scheduled = None;
-          first_published = option_or body.first_published (Some moment);
-          last_published = Some moment;
-          moderation = m;
-        }) (still_none body.moderation none)
 
 module _ (kept : TreePart) (part : worlds.TreePart) (desk : Option ContentValue)
     (now caller page : ℕ) (asked : IsAsked kept part desk caller (commands.Publish page))
@@ -110,7 +70,7 @@ module _ (kept : TreePart) (part : worlds.TreePart) (desk : Option ContentValue)
   pub publish_known : is_out time revision body ≡ true →
       step_by part desk now caller (commands.Publish page) ≡ Err NothingNew
   publish_known is =
-      own_refuses part desk now caller (commands.Publish page) NothingNew asked.front refl
+      own_refuses part desk now caller (commands.Publish page) NothingNew asked.front
       (publish_own ∙ rw (found, out_is true is) refl)
 
   -- its latest revision has expired
@@ -118,51 +78,58 @@ module _ (kept : TreePart) (part : worlds.TreePart) (desk : Option ContentValue)
       (has_expired time revision || expires_first revision) ≡ true →
       step_by part desk now caller (commands.Publish page) ≡ Err AlreadyExpired
   publish_late new is =
-      own_refuses part desk now caller (commands.Publish page) AlreadyExpired asked.front refl
+      own_refuses part desk now caller (commands.Publish page) AlreadyExpired asked.front
       (publish_own ∙ rw (found, out_is false new, late_is true is) refl)
 
   -- its plan
   publish_plans : is_out time revision body ≡ false →
       (has_expired time revision || expires_first revision) ≡ false →
       HasPlan kept part desk now caller (commands.Publish page)
-      (ending_plan (replies.Published (is_after time revision.go_live)) []
-      (body_change page (published_body time revision body) time kept.next_page kept.next_revision))
+      (ending_plan (replies.Published (is_after time revision.go_live))
+      (pages_of (desks_lost_with part page (after_publishing body.moderation)))
+      (body_change page (published_by_command time revision body) time kept.next_page
+      kept.next_revision))
   publish_plans new fresh_till =
       let moment = worlds.time_at part now in
       let ready = asked.given.ready in
-      let change : Body → Body = λ (one : Body). record (published_body moment revision one) {
-        moderation = after_publishing one.moderation;
-      } in
+      let change : Body → Body = published_by_command moment revision in
       let reply = replies.Published (is_after moment revision.go_live) in
-      let unmoderated = not_moderated part page body ready.reached
-      (publish_names part caller page asked.front) found in
+      let ended = desks_lost_with part page (after_publishing body.moderation) in
       subst (λ (m : ℕ). HasPlan kept part desk now caller (commands.Publish page)
-      (ending_plan (replies.Published (is_after m revision.go_live)) []
-      (body_change page (published_body m revision body) m kept.next_page kept.next_revision)))
+      (ending_plan (replies.Published (is_after m revision.go_live)) (pages_of ended)
+      (body_change page (published_by_command m revision body) m kept.next_page
+      kept.next_revision)))
       (sym time_is)
-      (body_planned (commands.Publish page) kept part desk now caller page reply [] change body
-      (published_body moment revision body) moment kept.next_page kept.next_revision ready found
-      (published_same moment revision body unmoderated) refl ready.stands.next_page
-      ready.stands.next_revision
+      (body_planned (commands.Publish page) kept part desk now caller page reply ended change body
+      (change body) moment kept.next_page kept.next_revision ready found refl refl
+      ready.stands.next_page ready.stands.next_revision
       (ends_step part desk now caller (commands.Publish page)
       (record part { time = moment; tree = rebodied page change part.tree }) reply false asked.front
-      refl (publish_own ∙ rw (found, out_is false new, late_is false fresh_till) refl) publish_done
-      refl []
-      (λ left told is. publish_ends_none part left told desk now caller page ready.reached.sound
-      ready.reached.none_yet.no_moderation is) (none_end part.desk_pairs)))
+      (publish_own ∙ rw (found, out_is false new, late_is false fresh_till) refl) publish_done refl
+      ended
+      (λ left told is. publish_ends part left told desk now caller page revision ready.reached.sound
+      latest is
+      ∙ ap (λ (m : Option Moderation). desks_lost_with part page (after_publishing m))
+      (moderation_is part page body found))
+      (pairs_agree (λ (pair : worlds.DeskPair). nat_eq pair.page page
+      && not (stays_with part (after_publishing body.moderation) pair)) part.desk_pairs
+      ready.reached.sound.desks.desks_rise)))
 
   -- what is told of it
   pub publish_prepared : is_out time revision body ≡ false →
       (has_expired time revision || expires_first revision) ≡ false → (waits : Bool) (new : Body)
       (shut : List ℕ) → waits ≡ is_after time revision.go_live →
-      new ≡ published_body time revision body → shut ≡ [] → (result : Result Plan Fault) →
+      new ≡ published_by_command time revision body →
+      shut ≡ pages_of (desks_lost_with part page (after_publishing body.moderation)) →
+      (result : Result Plan Fault) →
       Plans (ending_plan (replies.Published waits) shut
       (body_change page new time kept.next_page kept.next_revision)) result →
       Prepares part desk now caller (commands.Publish page) kept result
   publish_prepared fresh still waits new shut waits_is new_is shut_is result is =
       prepared (commands.Publish page) kept part desk now caller _ _ result
       (fields_same (replies.Published waits) (replies.Published (is_after time revision.go_live)) shut
-      [] page new (published_body time revision body) time kept.next_page kept.next_revision
+      (pages_of (desks_lost_with part page (after_publishing body.moderation))) page new
+      (published_by_command time revision body) time kept.next_page kept.next_revision
       (ap replies.Published waits_is) shut_is new_is) (publish_plans fresh still) is
 
 module _ (kept : TreePart) (part : worlds.TreePart) (desk : Option ContentValue)
@@ -190,7 +157,7 @@ module _ (kept : TreePart) (part : worlds.TreePart) (desk : Option ContentValue)
   pub unpublish_dead : body.live ≡ false →
       step_by part desk now caller (commands.Unpublish page) ≡ Err NotLive
   unpublish_dead is =
-      own_refuses part desk now caller (commands.Unpublish page) NotLive asked.front refl
+      own_refuses part desk now caller (commands.Unpublish page) NotLive asked.front
       (unpublish_own ∙ rw (found, is) refl)
 
   -- what is told of one that is
@@ -211,7 +178,7 @@ module _ (kept : TreePart) (part : worlds.TreePart) (desk : Option ContentValue)
       ready.stands.next_page ready.stands.next_revision
       (ends_step part desk now caller (commands.Unpublish page)
       (record part { time = worlds.time_at part now; tree = rebodied page change part.tree })
-      replies.Done false asked.front refl (unpublish_own ∙ rw (found, live) refl) unpublish_done refl
+      replies.Done false asked.front (unpublish_own ∙ rw (found, live) refl) unpublish_done refl
       [] unpublish_ends (none_end part.desk_pairs))) is
 
 module _ (kept : TreePart) (part : worlds.TreePart) (desk : Option ContentValue)
@@ -240,7 +207,7 @@ module _ (kept : TreePart) (part : worlds.TreePart) (desk : Option ContentValue)
   pub unschedule_idle : is_some body.scheduled ≡ false →
       step_by part desk now caller (commands.Unschedule page) ≡ Err NothingNew
   unschedule_idle is =
-      own_refuses part desk now caller (commands.Unschedule page) NothingNew asked.front refl
+      own_refuses part desk now caller (commands.Unschedule page) NothingNew asked.front
       (unschedule_own ∙ rw (found, is_absent body.scheduled false is) refl)
 
   -- what is told of one that has
@@ -261,6 +228,6 @@ module _ (kept : TreePart) (part : worlds.TreePart) (desk : Option ContentValue)
       ready.stands.next_page ready.stands.next_revision
       (ends_step part desk now caller (commands.Unschedule page)
       (record part { time = worlds.time_at part now; tree = rebodied page change part.tree })
-      replies.Done false asked.front refl
+      replies.Done false asked.front
       (unschedule_own ∙ rw (found, is_absent body.scheduled true waits) refl) unschedule_done refl []
       unschedule_ends (none_end part.desk_pairs))) is

@@ -28,10 +28,11 @@ use Rattle.grants.specs.Plans.{HasPlan, left_by}
 use Rattle.grants.specs.declared.part.TreePart.{TreePart}
 use Rattle.grants.specs.declared.plan.Plan.{Plan}
 use Rattle.grants.proofs.StepLemmas.{own_refuses}
-use Rattle.flow_edits.specs.Asked.{IsAsked}
-use Rattle.flow_edits.specs.Plans.{ending_plan, purge_of, taken}
-use Rattle.flow_edits.proofs.Planned.{planned}
-use Rattle.flow_edits.proofs.Steps.{part_left, none_end, ends_step}
+use Rattle.moderating.specs.Asked.{IsAsked}
+use Rattle.moderating.specs.Plans.{ending_plan}
+use Rattle.flow_edits.specs.Plans.{purge_of, taken}
+use Rattle.moderating.proofs.Planned.{planned}
+use Rattle.moderating.proofs.Steps.{part_left, none_end, ends_step}
 
 -- what a purge changes
 abbrev pub purge_change : ℕ → Body → ℕ → ℕ → ℕ → Change
@@ -88,7 +89,7 @@ module _ (kept : TreePart) (part : worlds.TreePart) (desk : Option ContentValue)
   purge_idle count is none =
       let no : nat_eq (length (purged part page)) 0 ≡ true =
       ap (λ (n : ℕ). nat_eq n 0) (sym (count_is count is) ∙ none) in
-      own_refuses part desk now caller (commands.Purge page) NothingNew asked.front refl
+      own_refuses part desk now caller (commands.Purge page) NothingNew asked.front
       (purge_own ∙ rw no refl)
 
   -- its plan
@@ -111,16 +112,16 @@ module _ (kept : TreePart) (part : worlds.TreePart) (desk : Option ContentValue)
       subst (λ (n : ℕ). HasPlan kept part desk now caller (commands.Purge page)
       (ending_plan (replies.Removed n) [] change)) (sym (count_is count is))
       (planned (commands.Purge page) kept part after desk now caller reply [] change ready
-      (ends_step part desk now caller (commands.Purge page) after reply false asked.front refl
+      (ends_step part desk now caller (commands.Purge page) after reply false asked.front
       (purge_own ∙ rw few refl) purge_done refl [] purge_ends (none_end part.desk_pairs))
-      (record { tree = tt; bodies = tt; gone = tt; revisions = tt; people = tt })
+      (record { tree = tt; bodies = tt; gone = tt; revisions = tt; people = tt; flows = tt })
       (lists_are (left_by (ending_plan reply [] change) (lists_of part))
       (lists_of (part_left after part.desk_pairs [])) refl
       (append-nil (purge_left (Some (purge_of page body)) (revisions_left [] part.revisions))
       ∙ (ap (purge_left (Some (purge_of page body)))
       (none_out (λ (revision : Revision). revision.page) part.revisions) ∙ left_is))
       (quiet_people (people_of part)) refl refl refl time_is ready.stands.next_page
-      ready.stands.next_revision) (omega arith) (omega arith) (omega arith))
+      ready.stands.next_revision) (omega arith) (omega arith) (omega arith) (omega arith))
 
   -- a plan made of these is that
   pub purge_told : (count : ℕ) → count ≡ length (taken (purge_of page body) kept.shelf.revisions) →

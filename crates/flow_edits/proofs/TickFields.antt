@@ -1,5 +1,5 @@
 -- What a tick makes of the fields of a row, told by what is due of it and by its own moments.
-use Rattle.std.proofs.Common.{◌≡◌, ◌||◌, ℕ, Bool, true, false, cond, nat_eq, nat_le, List, [], ◌∷◌, ◌++◌, Option, Some, None, IsSome, refl, sym, ap, ◌∙◌, is_some}
+use Rattle.std.proofs.Common.{◌≡◌, ◌||◌, ℕ, Bool, true, false, cond, nat_eq, nat_le, List, [], ◌∷◌, Option, Some, None, IsSome, refl, sym, ap, ◌∙◌, is_some}
 use Rattle.std.specs.List.{AllByRecursion, list_any}
 use Rattle.std.specs.Option.{option_map, option_and_then, option_map_or}
 use Rattle.page_tree.specs.Rows.{row_with}
@@ -9,10 +9,10 @@ use Rattle.site_model.specs.Publishing.{has_expired, published_body}
 use Rattle.site_model.specs.Ticks as ticks
 use Rattle.site_model.specs.Ticks.{DuePage, due_by}
 use Rattle.page_store.specs.Pages.{Page}
-use Rattle.publishing.specs.Times.{body_in, named, expiry_of, go_live_of}
+use Rattle.publishing.specs.Times.{body_in, named, expiry_of}
 use Rattle.publishing.specs.Ticks.{expiring_in, going_live_in}
 use Rattle.publishing.specs.Ticked.{has_come, after_expiry, gone_live, after_go_live, ticked_body, changed_bodies}
-use Rattle.publishing.specs.Bodies.{expired_body, unscheduled_body}
+use Rattle.publishing.specs.Bodies.{expired_body}
 use Rattle.time_table.proofs.EntryLemmas.{eq_turned}
 use Rattle.publishing.proofs.BodyLemmas.{eq_means}
 use Rattle.flat_model.proofs.KeptPages.{same_body}

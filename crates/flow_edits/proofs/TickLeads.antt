@@ -1,5 +1,5 @@
 -- The rows that the bodies of a tick make are those of the world after it.
-use Rattle.std.proofs.Common.{◌≡◌, ◌||◌, ℕ, Bool, cond, nat_eq, List, [], ◌∷◌, ◌++◌, map, Option, Some, None, refl, sym, ap, ◌∙◌, is_some}
+use Rattle.std.proofs.Common.{◌≡◌, ◌||◌, ℕ, Bool, cond, nat_eq, List, [], ◌∷◌, ◌++◌, Option, Some, sym, ap, ◌∙◌, is_some}
 use Rattle.std.proofs.lemmas.List.Folds.{list_any-append}
 use Rattle.std.specs.List.{AllByRecursion, list_any}
 use Rattle.std.specs.Option.{option_and_then, option_map_or}

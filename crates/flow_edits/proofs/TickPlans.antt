@@ -1,5 +1,5 @@
 -- Ticks: what is refused, and what is planned.
-use Rattle.std.proofs.Common.{◌≡◌, ◌&&◌, ◌==◌, ℕ, Bool, true, false, List, [], ◌∷◌, map, length, Option, Some, None, Result, Ok, Err, refl, sym, ap, subst, ◌∙◌, arith}
+use Rattle.std.proofs.Common.{◌≡◌, ◌&&◌, ◌==◌, ℕ, Bool, true, false, List, [], length, Option, None, Ok, Err, refl, sym, ap, subst, ◌∙◌, arith}
 use Rattle.std.proofs.lemmas.List.{length-map}
 use Rattle.page_tree.specs.Rows.{rows_of}
 use Rattle.site_types.specs.Content.{ContentValue}
@@ -23,14 +23,15 @@ use Rattle.publishing.specs.Ticks.{due_of, IsTickPlan}
 use Rattle.publishing.specs.Ticked.{ticked_body}
 use Rattle.publishing.specs.declared.due.TickPlan.{TickPlan}
 use Rattle.publishing.proofs.DueLaws.{due_in_world}
-use Rattle.grants.specs.Plans.{Prepares, HasPlan, left_by}
+use Rattle.grants.specs.Plans.{HasPlan, left_by}
 use Rattle.grants.specs.declared.part.TreePart.{TreePart}
 use Rattle.grants.specs.declared.plan.Plan.{Plan}
 use Rattle.grants.proofs.StepLemmas.{own_refuses}
-use Rattle.flow_edits.specs.Asked.{IsAsked}
-use Rattle.flow_edits.specs.Plans.{ending_plan, bodies_change, ticking_plan}
-use Rattle.flow_edits.proofs.Planned.{planned}
-use Rattle.flow_edits.proofs.Steps.{deed_of, part_left, ending, none_end, ends_step}
+use Rattle.moderating.specs.Asked.{IsAsked}
+use Rattle.moderating.specs.Plans.{ending_plan}
+use Rattle.flow_edits.specs.Plans.{bodies_change, ticking_plan}
+use Rattle.moderating.proofs.Planned.{planned}
+use Rattle.moderating.proofs.Steps.{deed_of, part_left, none_end, ends_step}
 use Rattle.flow_edits.proofs.TickFields.{expire, changed_there}
 use Rattle.flow_edits.proofs.TickLeads.{due_pages, due_bodies, bodies_lead}
 use Rattle.flow_edits.proofs.TickRows.{each_tree, bodies_fit}
@@ -120,7 +121,7 @@ module _ (kept : TreePart) (part : worlds.TreePart) (desk : Option ContentValue)
         && ((length due.published == 0) && (length due.dropped == 0))) ≡ true →
         step_by part desk now caller commands.Tick ≡ Err NothingNew
     tick_idle idle =
-        own_refuses part desk now caller commands.Tick NothingNew asked.front refl
+        own_refuses part desk now caller commands.Tick NothingNew asked.front
         (tick_own
         ∙ ap (λ (b : Bool). refused_if b NothingNew)
         (sym (idle_as (due_at part (worlds.time_at part now)) due told) ∙ idle))
@@ -169,7 +170,7 @@ module _ (kept : TreePart) (part : worlds.TreePart) (desk : Option ContentValue)
         let there = changed_there (ticked_body part.revisions t) rows
         (due_pages rows part.revisions t) in
         planned commands.Tick kept part after desk now caller reply [] change ready
-        (ends_step part desk now caller commands.Tick after reply false asked.front refl
+        (ends_step part desk now caller commands.Tick after reply false asked.front
         (some_due busy) deed_is refl [] tick_ends (none_end part.desk_pairs))
         (record {
           tree = tt;
@@ -177,12 +178,13 @@ module _ (kept : TreePart) (part : worlds.TreePart) (desk : Option ContentValue)
           gone = tt;
           revisions = tt;
           people = tt;
+          flows = tt;
         })
         (lists_are (left_by (ending_plan reply [] change) (lists_of part))
         (lists_of (part_left after part.desk_pairs []))
         (bodies_lead part t ready.reached.sound.pages.distinct) (quiet_revisions part.revisions)
         (quiet_people (people_of part)) refl refl refl refl refl refl) (omega arith) (omega arith)
-        (omega arith)
+        (omega arith) (omega arith)
 
     -- the pages that change are those of the world, with their fields
     bodies_are : due_bodies kept.rows.pages kept.shelf.revisions time

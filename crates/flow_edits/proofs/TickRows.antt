@@ -1,8 +1,8 @@
 -- Rows whose fields change, page by page: each row has what the changes of its page make of its fields.
-use Rattle.std.proofs.Common.{◌≡◌, ℕ, Bool, true, false, cond, nat_eq, List, [], ◌∷◌, map, Option, Some, None, IsSome, refl, sym, ap, ◌∙◌, arith}
+use Rattle.std.proofs.Common.{◌≡◌, ℕ, Bool, true, false, cond, nat_eq, List, [], ◌∷◌, map, Some, IsSome, refl, ap, ◌∙◌, arith}
 use Rattle.std.specs.List.{AllByRecursion}
 use Rattle.page_tree.specs.Tree.{Forest, HasDistinctIds}
-use Rattle.page_tree.specs.Rows.{Row, row_with, rows_of}
+use Rattle.page_tree.specs.Rows.{row_with, rows_of}
 use Rattle.site_types.specs.declared.body.Body.{Body}
 use Rattle.tree_model.proofs.CountLemmas.{once, distinct_ids}
 use Rattle.site_model.specs.World as worlds

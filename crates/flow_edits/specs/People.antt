@@ -12,7 +12,7 @@ use Rattle.grants.specs.declared.fault.Fault.{Fault}
 use Rattle.grants.specs.declared.fault.Fault.TheVariants.{Memory}
 use Rattle.grants.specs.declared.part.TreePart.{TreePart}
 use Rattle.grants.specs.declared.plan.Plan.{Plan}
-use Rattle.flow_edits.specs.Plans.{ending_plan}
+use Rattle.moderating.specs.Plans.{ending_plan}
 
 -- A plan with this reply, which opens no desk, ends those on these pages, and changes users,
 -- groups, memberships and grants alone: room was made for one user, membership or grant.

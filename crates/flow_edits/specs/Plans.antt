@@ -1,12 +1,11 @@
--- What is planned: plans that end desks, and what a purge takes.
-use Rattle.std.specs.Prelude.{◌≡◌, ℕ, ◌+◌, Bool, ◌==◌, ◌&&◌, not, List, [], ◌∷◌, filter, Option, Some, None, Result, Ok, Err, if◌then◌else◌}
+-- What is planned: plans of desks, of ticks, and what a purge takes.
+use Rattle.std.specs.Prelude.{ℕ, ◌+◌, Bool, ◌==◌, ◌&&◌, not, List, [], ◌∷◌, filter, Option, Some, None, if◌then◌else◌}
 use Rattle.site_types.specs.Content.{ContentValue}
 use Rattle.site_types.specs.declared.body.Body.{Body}
-use Rattle.site_types.specs.declared.refusal.Refusal.{Refusal}
-use Rattle.site_types.specs.declared.reply.Reply.{Reply}
 use Rattle.site_types.specs.declared.reply.Reply.TheVariants.{Done, Id, Ticked}
 use Rattle.site_types.specs.declared.revision.Revision.{Revision}
-use Rattle.site_model.specs.Publishing.{moderated_revision}
+use Rattle.site_model.specs.Moderations.{after_filing, after_publishing}
+use Rattle.site_model.specs.Publishing.{moderated_revision, published_body}
 use Rattle.publishing.specs.declared.due.TickPlan.{TickPlan}
 use Rattle.flat_model.specs.Made.{needs_revision}
 use Rattle.flat_model.specs.Single.{tree_change, body_change}
@@ -14,18 +13,8 @@ use Rattle.flat_model.specs.declared.change.Change.{Change}
 use Rattle.flat_model.specs.declared.change.Purge.{Purge}
 use Rattle.flat_model.specs.declared.change.TreeChange.TheVariants.{Nothing}
 use Rattle.grants.specs.Plans.{quiet_plan}
-use Rattle.grants.specs.declared.fault.Fault.{Fault}
-use Rattle.grants.specs.declared.fault.Fault.TheVariants.{Refused, Memory}
 use Rattle.grants.specs.declared.plan.Plan.{Plan}
-
--- a plan that opens no desk, and ends those on these pages
-abbrev pub ending_plan : Reply → List ℕ → Change → Plan
-ending_plan reply shut change = record (quiet_plan reply change) { shut = shut }
-
--- this plan, unless memory ran out
-abbrev pub Plans : Plan → Result Plan Fault → Type 0
-Plans plan (Ok made) = made ≡ plan
-Plans plan (Err fault) = fault ≡ Memory
+use Rattle.moderating.specs.Plans.{ending_plan}
 
 -- the purge of a page of which this is kept
 abbrev pub purge_of : ℕ → Body → Purge
@@ -51,13 +40,6 @@ abbrev pub counted : Purge → Option Revision → ℕ
 counted purge None = 0
 counted purge (Some revision) = if is_taken purge revision then 1 else 0
 
--- What is told by what rules refuse: something right only where none refuses, and a refusal exactly
--- as the rules say. Out of memory tells nothing.
-abbrev pub Tells : {Told : Type 0} → Option Refusal → (Told → Type 0) → Result Told Fault → Type 0
-Tells refused IsRight (Ok told) = (refused ≡ None) × IsRight told
-Tells refused IsRight (Err (Refused refusal)) = refused ≡ Some refusal
-Tells refused IsRight (Err Memory) = Unit {0}
-
 -- the plan of a desk that is opened
 abbrev pub opening_plan : ℕ → ℕ → ContentValue → ℕ → ℕ → ℕ → Plan
 opening_plan page user text time next_page next_revision =
@@ -80,10 +62,19 @@ revision_of id page by made content go_live expire =
 
 -- what is kept of a page whose text was filed with this revision
 abbrev pub filed_body : Body → ℕ → Body
-filed_body body revision = record body { latest = Some revision }
+filed_body body revision =
+    record body { latest = Some revision; moderation = after_filing revision body.moderation }
 
--- the plan of a text that is filed: a revision comes, the page has it as its latest, and the desk
--- ends
+-- what is kept of a page of which this revision was published by a command at a moment: a moderation
+-- that was not over is given up
+abbrev pub published_by_command : ℕ → Revision → Body → Body
+published_by_command moment revision body =
+    record (published_body moment revision body) {
+      moderation = after_publishing body.moderation;
+    }
+
+-- the plan of a text that is filed: a revision comes, the page has it as its latest, a moderation in
+-- progress is about it, and the desk ends
 abbrev pub filing_plan : Revision → Body → ℕ → Plan
 filing_plan revision body next_page =
     ending_plan (Id revision.id) (revision.page ∷ [])

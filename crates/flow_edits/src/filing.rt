@@ -10,16 +10,18 @@ ghost use Rattle.site_model.specs.Desks as desks;
 ghost use Rattle.site_model.specs.Views as views;
 ghost use Rattle.grants.specs.Plans.{Prepares};
 ghost use Rattle.grants.specs.Standing.{IsReady, IsSame};
-ghost use Rattle.flow_edits.specs.Asked.{IsAsked};
-ghost use Rattle.flow_edits.specs.Plans.{Plans, Tells, revision_of, filed_body, filing_plan};
+ghost use Rattle.moderating.specs.Asked.{IsAsked};
+ghost use Rattle.moderating.specs.Plans.{Plans, Tells};
+ghost use Rattle.flow_edits.specs.Plans.{revision_of, filed_body, filing_plan};
 
-use crate::telling::{body_of, ending, later, latest_of, one_page, same_moment};
 use grants::{Change, Fault, Plan, TreePart};
+use moderating::{after_filing, body_of, ending, later, latest_of, one_page, same_moment};
 use revision_shelf::MAX_CONTENT_SUM;
 use site_types::{
     Body, Content, Items, Moment, NoMemory, PageId, Refusal, Reply, Revision, RevisionId, UserId,
 };
 use std::alloc::Global;
+use workflow::Flows;
 
 /// What is filed: a text, when it is to be published, if not at once, and when the page is to stop
 /// being live, if ever.
@@ -31,7 +33,7 @@ struct Draft<'a> {
 }
 
 /// The plan of filing the text of the caller's desk on a page, with these moments: it becomes the
-/// page's latest revision, and the desk ends.
+/// page's latest revision, and the one that a moderation in progress is about, and the desk ends.
 ///
 /// It costs a few look-ups, and a comparison and a copy of the text.
 pub(crate) fn plan_filing(
@@ -152,31 +154,39 @@ fn filing_plan(alloc: Global, part: &TreePart, filed: Revision) -> Result<Plan, 
     let Some(body) = body_of(&part.rows, filed.page) else {
         unreachable!();
     };
-    match filing_of(alloc, filed, &body, part.next_page) {
+    match filing_of(alloc, &part.flows, filed, &body, part.next_page) {
         Ok(plan) => Ok(plan),
         Err(_) => Err(Fault::Memory),
     }
 }
 
 /// The plan of a text that becomes this revision of a page of which this is kept.
-fn filing_of(alloc: Global, filed: Revision, body: &Body, next_page: u32) -> Result<Plan, NoMemory>
+fn filing_of(
+    alloc: Global,
+    flows: &Flows,
+    filed: Revision,
+    body: &Body,
+    next_page: u32,
+) -> Result<Plan, NoMemory>
     ensures { IfOk result (λ plan. plan ≡ filing_plan filed body.now next_page) }
 {
     let id = filed.id;
     let page = filed.page;
     let shut = one_page(alloc, page)?;
-    let after = filed_body(body, id);
+    let after = filed_body(flows, body, id);
     let mut change = Change::of_body(alloc, page, after, filed.made, next_page, id.get() + 1)?;
     change.revisions = one_revision(alloc, filed)?;
     Ok(ending(alloc, Reply::Id(id.get()), shut, change))
 }
 
-/// What is kept of a page with this revision as its latest.
-fn filed_body(body: &Body, revision: RevisionId) -> Body
+/// What is kept of a page with this revision as its latest, which a moderation in progress is then
+/// about.
+fn filed_body(flows: &Flows, body: &Body, revision: RevisionId) -> Body
     ensures { result ≡ filed_body body.now revision }
 {
     Body {
         latest: Some(revision),
+        moderation: after_filing(flows, body, revision),
         ..*body
     }
 }

@@ -10,13 +10,13 @@ ghost use Rattle.site_model.specs.Rules.{is_given};
 ghost use Rattle.site_model.specs.Users.{agree, is_membership, is_grant, grants_after};
 ghost use Rattle.grants.specs.Plans.{Prepares, pages_of};
 ghost use Rattle.grants.specs.Standing.{IsReady, IsSame};
-ghost use Rattle.flow_edits.specs.Asked.{IsAsked};
+ghost use Rattle.moderating.specs.Asked.{IsAsked};
 ghost use Rattle.flow_edits.specs.People.{member_lost, grant_lost};
 
 use crate::people::ready_plan;
-use crate::telling::no_pages;
 use grants::{Fault, PeopleChange, Plan, TreePart};
 use lost_desks::{lost_by_leaving, lost_by_withdrawal};
+use moderating::no_pages;
 use site_types::{
     GroupId, Ids, Moment, NameKind, NoMemory, PageId, Permission, Refusal, Reply, UserId,
 };

@@ -10,7 +10,6 @@ mod people;
 mod prepare;
 mod publication;
 mod purging;
-mod telling;
 mod ticking;
 
 pub use prepare::prepare_flow;

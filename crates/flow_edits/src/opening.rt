@@ -8,11 +8,12 @@ ghost use Rattle.site_model.specs.Bodies.{latest_content};
 ghost use Rattle.site_model.specs.Desks.{open_rules};
 ghost use Rattle.grants.specs.Plans.{Prepares};
 ghost use Rattle.grants.specs.Standing.{IsSame};
-ghost use Rattle.flow_edits.specs.Asked.{IsAsked};
-ghost use Rattle.flow_edits.specs.Plans.{Tells, opening_plan};
+ghost use Rattle.moderating.specs.Asked.{IsAsked};
+ghost use Rattle.moderating.specs.Plans.{Tells};
+ghost use Rattle.flow_edits.specs.Plans.{opening_plan};
 
-use crate::telling::{ending, later, latest_of, one_page};
 use grants::{Change, Fault, Plan, TreeChange, TreePart};
+use moderating::{ending, later, latest_of, one_page};
 use site_types::{Content, Moment, PageId, Refusal, Reply, UserId};
 use std::alloc::Global;
 

@@ -5,11 +5,11 @@ ghost use Rattle.site_types.specs.declared.command.Command.TheVariants as comman
 ghost use Rattle.site_model.specs.World as worlds;
 ghost use Rattle.grants.specs.Plans.{Prepares};
 ghost use Rattle.grants.specs.Standing.{IsSame};
-ghost use Rattle.flow_edits.specs.Asked.{IsAsked};
+ghost use Rattle.moderating.specs.Asked.{IsAsked};
 ghost use Rattle.flow_edits.specs.People.{ReadiesPlan};
 
-use crate::telling::{ending, later, no_pages};
 use grants::{Change, Fault, PeopleChange, Plan, TreePart};
+use moderating::{ending, later, no_pages};
 use site_ids::{LAST_GROUP_ID, LAST_USER_ID};
 use site_types::{Digest, Ids, Moment, Refusal, Reply};
 use std::alloc::Global;

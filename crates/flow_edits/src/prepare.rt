@@ -4,7 +4,8 @@ ghost use Rattle.std.specs.Option.{option_copied};
 ghost use Rattle.site_model.specs.World as worlds;
 ghost use Rattle.grants.specs.Standing.{IsSame};
 ghost use Rattle.grants.specs.Plans.{Prepares};
-ghost use Rattle.flow_edits.specs.Asked.{IsGiven, IsAsked, is_flow};
+ghost use Rattle.moderating.specs.Asked.{IsGiven, IsAsked};
+ghost use Rattle.flow_edits.specs.Asked.{is_flow};
 
 use crate::filing::plan_filing;
 use crate::joining::{plan_grant, plan_member};
@@ -15,11 +16,15 @@ use crate::publication::{plan_publish, plan_unpublish, plan_unschedule};
 use crate::purging::plan_purge;
 use crate::ticking::plan_tick;
 use grants::{Fault, Plan, TreePart, front};
+use moderating::{
+    plan_approval, plan_assignment, plan_cancelling, plan_rejection, plan_submission, plan_task,
+    plan_workflow,
+};
 use site_types::{Command, Content, Moment, UserId};
 use std::alloc::Global;
 
-/// The plan of a command on drafts, publishing, locks, revisions, users or groups by a user at a
-/// moment, or why it is refused: the first of its rules that refuses it, in the order of their
+/// The plan of a command on drafts, publishing, locks, revisions, moderation, users or groups by a
+/// user at a moment, or why it is refused: the first of its rules that refuses it, in the order of their
 /// numbers, or out of memory. It changes nothing but spare room.
 ///
 /// `desk` is what the caller has written at the desk that the command looks at, if it looks at one
@@ -77,6 +82,13 @@ fn plan_passed(
         Command::Lock { page } => plan_lock(alloc, part, *page, caller, now),
         Command::Unlock { page } => plan_unlock(alloc, part, *page, now),
         Command::Purge { page } => plan_purge(alloc, part, *page, now),
+        Command::DefineTask { groups } => plan_task(alloc, part, groups, now),
+        Command::DefineWorkflow { tasks } => plan_workflow(alloc, part, tasks, now),
+        Command::Assign { page, workflow } => plan_assignment(alloc, part, *page, *workflow, now),
+        Command::Submit { page } => plan_submission(alloc, part, *page, caller, now),
+        Command::Approve { page } => plan_approval(alloc, part, *page, now),
+        Command::Reject { page } => plan_rejection(alloc, part, *page, now),
+        Command::Cancel { page } => plan_cancelling(alloc, part, *page, now),
         Command::DefineUser { superuser, digest } => {
             plan_user(alloc, part, *superuser, digest, now)
         }

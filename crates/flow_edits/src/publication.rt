@@ -1,21 +1,27 @@
 //! Plans of publishing and unpublishing, and of emptying a schedule.
-ghost use Rattle.std.specs.Prelude.{◌≡◌, ◌||◌, ℕ, Option};
+ghost use Rattle.std.specs.Prelude.{◌≡◌, ℕ, Option};
 ghost use Rattle.site_types.specs.Content.{ContentValue};
 ghost use Rattle.site_types.specs.declared.command.Command.TheVariants as commands;
 ghost use Rattle.site_model.specs.World as worlds;
 ghost use Rattle.site_model.specs.Publishing as model;
 ghost use Rattle.grants.specs.Plans.{Prepares};
-ghost use Rattle.flow_edits.specs.Asked.{IsAsked};
+ghost use Rattle.moderating.specs.Asked.{IsAsked};
+ghost use Rattle.flow_edits.specs.Plans.{published_by_command};
 
-use crate::telling::{body_plan, kept_of, later, latest_of, no_pages, same_revision};
 use grants::{Fault, Plan, TreePart};
-use publishing::{has_expired, published_body, unpublished_body, unscheduled_body, waits};
+use lost_desks::lost_by_moderation;
+use moderating::{
+    after_publishing, body_plan, is_late, kept_of, later, latest_of, no_pages, same_revision,
+};
+use publishing::{published_body, unpublished_body, unscheduled_body, waits};
 use site_types::{Body, Moment, PageId, Refusal, Reply, Revision};
 use std::alloc::Global;
+use workflow::Flows;
 
-/// The plan of publishing the latest revision of a page, which its caller may do.
+/// The plan of publishing the latest revision of a page, which its caller may do. It gives up a
+/// moderation of the page that is not over, and ends the page's desk if that does not stay then.
 ///
-/// It costs a few look-ups.
+/// It costs a few look-ups, and what `lost_by_moderation` costs.
 pub(crate) fn plan_publish(
     alloc: Global,
     part: &TreePart,
@@ -42,8 +48,11 @@ pub(crate) fn plan_publish(
     let reply = Reply::Published {
         scheduled: waits(revision, time),
     };
-    let after = published_body(revision, &body, time);
-    body_plan(alloc, part, page, after, time, reply, no_pages(alloc))
+    let after = published_by_command(&part.flows, revision, &body, time);
+    let Ok(shut) = lost_by_moderation(alloc, part, page, after.moderation) else {
+        return Err(Fault::Memory);
+    };
+    body_plan(alloc, part, page, after, time, reply, shut)
 }
 
 /// The plan of unpublishing a page, which its caller may do. One look-up.
@@ -90,6 +99,18 @@ pub(crate) fn plan_unschedule(
     body_plan(alloc, part, page, after, time, Reply::Done, no_pages(alloc))
 }
 
+/// A page with these fields after a revision of it was published by a command at a moment: a moderation
+/// that was not over is given up.
+fn published_by_command(flows: &Flows, revision: &Revision, body: &Body, time: Moment) -> Body
+    ensures { result ≡ published_by_command time revision.now body.now }
+{
+    let out = published_body(revision, body, time);
+    Body {
+        moderation: after_publishing(flows, body),
+        ..out
+    }
+}
+
 /// Whether to publish this latest revision changes nothing: the page is live and shows it, or it is
 /// scheduled and waits for its go-live.
 fn is_out(time: Moment, revision: &Revision, body: &Body) -> bool
@@ -97,21 +118,4 @@ fn is_out(time: Moment, revision: &Revision, body: &Body) -> bool
 {
     (body.live && same_revision(body.shown, body.latest))
         || (same_revision(body.scheduled, body.latest) && waits(revision, time))
-}
-
-/// Whether a revision has expired, or would expire before it goes live.
-fn is_late(time: Moment, revision: &Revision) -> bool
-    ensures { result ≡ (model.has_expired time revision.now || model.expires_first revision.now) }
-{
-    has_expired(revision, time) || expires_first(revision)
-}
-
-/// Whether a revision would expire before it goes live, or as it does.
-fn expires_first(revision: &Revision) -> bool
-    ensures { result ≡ model.expires_first revision.now }
-{
-    match revision.go_live {
-        Some(go_live) => has_expired(revision, go_live),
-        None => false,
-    }
 }

@@ -5,12 +5,12 @@ ghost use Rattle.site_types.specs.Content.{ContentValue};
 ghost use Rattle.site_types.specs.declared.command.Command.TheVariants as commands;
 ghost use Rattle.site_model.specs.World as worlds;
 ghost use Rattle.grants.specs.Plans.{Prepares};
-ghost use Rattle.flow_edits.specs.Asked.{IsAsked};
+ghost use Rattle.moderating.specs.Asked.{IsAsked};
 ghost use Rattle.flow_edits.specs.Plans.{purge_of, is_taken, taken, counted};
 
-use crate::telling::{ending, kept_of, later, no_pages, same_revision};
 use flat_model::Purge;
 use grants::{Change, Fault, Plan, TreeChange, TreePart};
+use moderating::{ending, kept_of, later, no_pages, same_revision};
 use revision_shelf::Shelf;
 use site_types::{Body, Moment, PageId, Refusal, Reply, Revision};
 use std::alloc::Global;

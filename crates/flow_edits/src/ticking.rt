@@ -4,11 +4,11 @@ ghost use Rattle.site_types.specs.Content.{ContentValue};
 ghost use Rattle.site_types.specs.declared.command.Command.TheVariants as commands;
 ghost use Rattle.site_model.specs.World as worlds;
 ghost use Rattle.grants.specs.Plans.{Prepares};
-ghost use Rattle.flow_edits.specs.Asked.{IsAsked};
+ghost use Rattle.moderating.specs.Asked.{IsAsked};
 ghost use Rattle.flow_edits.specs.Plans.{ticking_plan};
 
-use crate::telling::{ending, later, no_pages};
 use grants::{Change, Fault, Plan, TreeChange, TreePart};
+use moderating::{ending, later, no_pages};
 use publishing::{TickPlan, tick_bodies, tick_plan};
 use site_types::{Body, Items, Moment, PageId, Refusal, Reply};
 use std::alloc::Global;

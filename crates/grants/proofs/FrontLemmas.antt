@@ -1,13 +1,7 @@
 -- What the first rules tell: that they let a command pass, or which of them refuses it.
 use Rattle.std.proofs.Common.{◌≡◌, Option, Some, None, Ok, Err, refl}
 use Rattle.site_types.specs.declared.refusal.Refusal.{Refusal}
-use Rattle.site_model.specs.World.{TreePart}
-use Rattle.site_model.specs.Reached.{IsReachedPart}
-use Rattle.grants.specs.Needs.{NoModeration, rule_told}
-
--- no page of a part that is reached is moderated
-pub no_moderation : (part : TreePart) → IsReachedPart part → NoModeration part.tree
-no_moderation part reached = reached.none_yet.no_moderation
+use Rattle.grants.specs.Needs.{rule_told}
 
 -- a command that passes is refused by none of them
 pub passed : (rule : Option Refusal) → Ok tt ≡ rule_told rule → rule ≡ None

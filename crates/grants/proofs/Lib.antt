@@ -4,7 +4,9 @@ pub mod CutLemmas
 pub mod UserLemmas
 pub mod SpanLemmas
 pub mod LiveLemmas
+pub mod AskingLemmas
 pub mod NeedLemmas
+pub mod CountedLemmas
 pub mod PassingLemmas
 pub mod OwnLemmas
 pub mod UpLemmas

@@ -2,7 +2,7 @@
 use Rattle.std.proofs.Common.{◌≡◌, ℕ, Bool, true, false, ◌&&◌, ◌||◌, cond, nat_eq, List, [], ◌∷◌, ◌++◌, Option, Some, None, IsSome, is_some, unwrap_or, refl, sym, ap, ◌∙◌, rules}
 use Rattle.std.specs.Prelude.{option_and_then}
 use Rattle.std.specs.Option.{option_map}
-use Rattle.page_tree.specs.Tree.{Forest, bare, grown, has_page, node_of}
+use Rattle.page_tree.specs.Tree.{Forest, has_page}
 use Rattle.page_tree.specs.Rows.{row_with, rows_of}
 use Rattle.page_tree.proofs.RowLemmas.{has_page-rows}
 use Rattle.site_types.specs.declared.body.Body.{Body}
@@ -11,17 +11,16 @@ use Rattle.site_types.specs.declared.permission.Permission.TheVariants.{Add, Cha
 use Rattle.site_types.specs.declared.position.Position.{Position}
 use Rattle.site_types.specs.declared.world_rows.UserRow.{UserRow}
 use Rattle.tree_model.specs.Places.{is_beside, parent_at}
-use Rattle.tree_model.proofs.PageLemmas.{AllPages-node_of}
 use Rattle.page_store.specs.Pages.{Page}
 use Rattle.site_model.specs.World.{TreePart}
 use Rattle.site_model.specs.Rights as rights
 use Rattle.site_model.specs.Rights.{rights_of, above_of, has, permission_number, is_superuser}
-use Rattle.site_model.specs.Views.{first_body, body_of, view_of, meets, may_edit}
+use Rattle.site_model.specs.Views.{Stage, body_of, view_of, stage_of, meets, moderates, may_edit}
 use Rattle.site_model.specs.Needs as needs
 use Rattle.site_model.specs.Needs.{first_unmet, unless_met, need_at, need_where, edit_need, unmet}
 use Rattle.site_model.proofs.ViewLemmas.{seen, view_is}
 use Rattle.grants.specs.declared.right.Held.{Held}
-use Rattle.grants.specs.Needs.{seen_held, is_held, is_by, NoModeration}
+use Rattle.grants.specs.Needs.{seen_held, is_held, is_by, answers}
 
 -- a page that is there has a row
 pub has_row : (page : ℕ) (tree : Forest Body) (pages : List Page) → pages ≡ rows_of tree →
@@ -161,27 +160,6 @@ parent_is tree pages target parent position stands is =
     (unwrap_or (option_and_then (λ (row : Page). row.parent) (row_with target rows)) 0) target)
     stands
 
--- what is kept of a page is not moderated where none is
-unmoderated : (f : Forest Body) (body : Body) → NoModeration f → first_body f ≡ Some body →
-    body.moderation ≡ None
-unmoderated bare body none is = absurd cc
-unmoderated (grown i s slug own kids rest) body none is =
-    let same : own ≡ body = cc in
-    ap (λ (one : Body). one.moderation) (sym same) ∙ none.0
-
--- nor is a page that is looked for
-pub not_moderated : (tree : Forest Body) (page : ℕ) (body : Body) → NoModeration tree →
-    body_of tree page ≡ Some body → body.moderation ≡ None
-not_moderated tree page body none is =
-    unmoderated (node_of page tree) body
-    (AllPages-node_of (λ id slug (one : Body). one.moderation ≡ None) page tree none) is
-
--- three tests of which the last fails
-without_last : (a b c : Bool) → c ≡ false → a || b ≡ a || (b || c)
-without_last true b c is = refl
-without_last false true c is = refl
-without_last false false c is = sym is
-
 module _ (part : TreePart) (user page : ℕ) (body : Body)
     (kept : body_of part.tree page ≡ Some body) where
   -- what is seen of a page
@@ -189,17 +167,17 @@ module _ (part : TreePart) (user page : ℕ) (body : Body)
   view_kept = view_is part page ∙ rw kept refl
 
   module _ (held : Held) (is_held_there : seen_held held ≡ rights.held part user page)
-      (none : body.moderation ≡ None) (result : Bool)
-      (is : result ≡ held.change || (held.add && nat_eq body.owner user)) where
-    -- one may edit a page that is not moderated by these two rights
+      (result : Bool)
+      (is : result ≡ held.change || ((held.add && nat_eq body.owner user)
+      || moderates (rights_of part user) (stage_of part body.moderation))) where
+    -- one may edit a page by these three rights
     edits : result ≡ meets (may_edit (rights_of part user)) (view_of part page)
     edits =
         is
         ∙ (rw (
           held_has part user page Change held is_held_there,
           held_has part user page Add held is_held_there,
-        ) (without_last (has part user Change page)
-        (has part user Add page && nat_eq body.owner user) _ (rw none refl))
+        ) refl
         ∙ ap (meets (may_edit (rights_of part user))) (sym view_kept))
 
     -- so the need to edit it is met
@@ -264,13 +242,35 @@ module _ (part : TreePart) (user page : ℕ) (body : Body)
       (told ∙ ap (λ t. unless_met (t || has part user Publish page) (permission_number Publish))
       (sym (ap (needs.has_submitted user) kept ∙ (sym is ∙ fails))))
 
-  -- whoever asks may answer what is not moderated
-  pub answer_met : body.moderation ≡ None → None ≡ first_unmet (needs.answer_needs part user page)
-  answer_met none =
-      only_is (unless_met (meets (needs.may_answer (rights_of part user)) (view_of part page))
-      needs.APPROVE_NEED) None
-      (met _ needs.APPROVE_NEED
-      (ap (meets (needs.may_answer (rights_of part user))) view_kept ∙ rw none refl))
+  -- who may answer a moderation, by where it stands
+  answers_kept : answers (rights_of part user) (stage_of part body.moderation)
+      ≡ meets (needs.may_answer (rights_of part user)) (view_of part page)
+  answers_kept =
+      by (stage_of part body.moderation) refl
+      ∙ ap (meets (needs.may_answer (rights_of part user))) (sym view_kept)
+    where
+      by : (stage : Option Stage) → stage_of part body.moderation ≡ stage →
+          answers (rights_of part user) stage
+          ≡ needs.may_answer (rights_of part user) (seen part (above_of part.tree page) body)
+      by None e = rw e refl
+      by (Some stage) e = rw e refl
+
+  module _ (result : Bool)
+      (is : result ≡ answers (rights_of part user) (stage_of part body.moderation)) where
+    -- who may answer needs nothing more
+    pub answer_met : result ≡ true → None ≡ first_unmet (needs.answer_needs part user page)
+    answer_met holds =
+        only_is (unless_met (meets (needs.may_answer (rights_of part user)) (view_of part page))
+        needs.APPROVE_NEED) None
+        (met _ needs.APPROVE_NEED (sym (is ∙ answers_kept) ∙ holds))
+
+    -- and else the need to be asked is not met
+    pub answer_unmet : result ≡ false →
+        Some needs.APPROVE_NEED ≡ first_unmet (needs.answer_needs part user page)
+    answer_unmet fails =
+        only_is (unless_met (meets (needs.may_answer (rights_of part user)) (view_of part page))
+        needs.APPROVE_NEED) (Some needs.APPROVE_NEED)
+        (not_met _ needs.APPROVE_NEED (sym (is ∙ answers_kept) ∙ fails))
 
 -- who is no superuser among the users of a store is none in a world
 pub no_superuser : (part : TreePart) (users : List UserRow) (user : ℕ) → users ≡ part.users →

@@ -16,7 +16,7 @@ use Rattle.site_model.specs.World.{TreePart}
 use Rattle.site_model.specs.Rights.{rights_of, Rights}
 use Rattle.site_model.specs.Needs.{needs_of, may}
 use Rattle.site_model.specs.Rules.{first_of, no_page, no_pages, are_root}
-use Rattle.site_model.specs.Views.{body_of}
+use Rattle.site_model.specs.Views.{body_of, stage_of}
 use Rattle.site_model.specs.Front.{CommandRow, Stops, StopsNobody, StopsOthers, StopsEveryone, locked, aliased, in_moderation, row_of, front_by, front_rules}
 use Rattle.site_model.proofs.ViewLemmas.{view_is}
 use Rattle.grants.specs.declared.need.Need.{Need}
@@ -65,13 +65,6 @@ no_alias : (alias : Bool) → aliased alias None ≡ None
 no_alias true = refl
 no_alias false = refl
 
--- of two rules and one that does not refuse
-two_of : (one two three : Option Refusal) → three ≡ None →
-    first_of (one ∷ two ∷ []) ≡ first_of (one ∷ two ∷ three ∷ [])
-two_of (Some refusal) two three is = refl
-two_of None (Some refusal) three is = refl
-two_of None None three is = rw is refl
-
 -- whether a page of which this is kept is an alias
 alias_kept : (alias : Bool) (body : Body) → alias_rule alias body.source ≡ aliased alias (Some body)
 alias_kept false body = refl
@@ -97,14 +90,16 @@ module _ (part : TreePart) (caller : ℕ) (row : CommandRow) (page : ℕ) (named
         )
         refl
 
-    -- what stops one at a page that is not moderated
-    pub stops_at : (body : Body) → body_of part.tree page ≡ Some body → body.moderation ≡ None →
-        first_of (locked row.lock caller body.locked_by ∷ alias_rule row.alias body.source ∷ [])
+    -- what stops one at a page of which this is kept
+    pub stops_at : (body : Body) → body_of part.tree page ≡ Some body →
+        first_of
+        (locked row.lock caller body.locked_by
+        ∷ alias_rule row.alias body.source
+        ∷ in_moderation row.moderation (rights_of part caller) (stage_of part body.moderation)
+        ∷ [])
         ≡ stops_of part caller row
-    stops_at body kept none =
-        rw (named, view_is part page, kept, ← alias_kept row.alias body, none)
-        (two_of (locked row.lock caller body.locked_by) (alias_rule row.alias body.source) _
-        (unmoderated row.moderation (rights_of part caller)))
+    stops_at body kept =
+        rw (named, view_is part page, kept, ← alias_kept row.alias body) refl
 
 -- the first rule that refuses
 pub first_refuses : (one : Option Refusal) (more : List (Option Refusal)) (refusal : Refusal) →
@@ -112,12 +107,16 @@ pub first_refuses : (one : Option Refusal) (more : List (Option Refusal)) (refus
 first_refuses None more refusal is = absurd cc
 first_refuses (Some other) more refusal is = is
 
--- the second of two, where the first does not
-pub second_refuses : (one two result : Option Refusal) → None ≡ one → result ≡ two →
-    result ≡ first_of (one ∷ two ∷ [])
-second_refuses None None result met is = is
-second_refuses None (Some refusal) result met is = is
-second_refuses (Some other) two result met is = absurd cc
+-- the rules after one that does not refuse
+pub later_refuses : (one result : Option Refusal) (more : List (Option Refusal)) → None ≡ one →
+    result ≡ first_of more → result ≡ first_of (one ∷ more)
+later_refuses None result more met is = is
+later_refuses (Some other) result more met is = absurd cc
+
+-- the only rule
+pub only_refuses : (one result : Option Refusal) → result ≡ one → result ≡ first_of (one ∷ [])
+only_refuses None result is = is
+only_refuses (Some refusal) result is = is
 
 -- what is answered of the first rule that refuses
 told_first : (one : Option Refusal) (more : List (Option Refusal)) (refusal : Refusal) →

@@ -1,6 +1,6 @@
 -- What is in memory stands for a world exactly where its lists are those of the world, and what is found
 -- fast is in step with them; room makes no difference.
-use Rattle.std.proofs.Common.{◌≡◌, ◌+◌, refl, sym, ap, ◌∙◌}
+use Rattle.std.proofs.Common.{◌≡◌, ◌+◌, refl, ap, ◌∙◌}
 use Rattle.site_model.specs.World as worlds
 use Rattle.flat_model.specs.Flat.{people_of, lists_of}
 use Rattle.flat_model.specs.Lists.{PeopleLists, PartLists}
@@ -8,6 +8,7 @@ use Rattle.flat_model.proofs.ListLemmas.{people_are, lists_are}
 use Rattle.grants.specs.Lists.{GrantLists, SameLists, ListsStandFor}
 use Rattle.revision_shelf.specs.Shelf.{RevisionList}
 use Rattle.desk_pairs.specs.Pairs.{PairList}
+use Rattle.workflow.specs.Flows.{FlowLists, SameFlows}
 use Rattle.grants.specs.Standing.{seen, seen_people, InStep, IsSame, StandsFor, IsReady, IsLinked}
 use Rattle.grants.specs.declared.part.TreePart.{TreePart}
 
@@ -23,7 +24,7 @@ pub stands_seen : (kept : TreePart) (part : worlds.TreePart) → StandsFor kept 
     seen kept ≡ lists_of part
 stands_seen kept part stands =
     lists_are (seen kept) (lists_of part) stands.pages stands.revisions
-    (people_seen kept.grants part stands.lists) (sym stands.no_tasks) (sym stands.no_workflows)
+    (people_seen kept.grants part stands.lists) stands.flows.tasks stands.flows.workflows
     stands.desks stands.time stands.next_page stands.next_revision
 
 -- what has the lists of a world, and is in step, stands for it
@@ -40,8 +41,10 @@ seen_stands kept part is in_step linked =
         members = ap (λ (l : PeopleLists). l.members) people;
         grants = ap (λ (l : PeopleLists). l.grants) people;
       };
-      no_tasks = sym (ap (λ (l : PartLists). l.tasks) is);
-      no_workflows = sym (ap (λ (l : PartLists). l.workflows) is);
+      flows = record {
+        tasks = ap (λ (l : PartLists). l.tasks) is;
+        workflows = ap (λ (l : PartLists). l.workflows) is;
+      };
       desks = ap (λ (l : PartLists). l.desk_pairs) is;
       time = ap (λ (l : PartLists). l.time) is;
       next_page = ap (λ (l : PartLists). l.next_page) is;
@@ -56,6 +59,7 @@ same_itself kept = record {
   pages = refl;
   revisions = refl;
   lists = record { users = refl; groups = refl; members = refl; grants = refl };
+  flows = record { tasks = refl; workflows = refl };
   desks = refl;
   time = refl;
   next_page = refl;
@@ -74,6 +78,10 @@ same_both before mid after one other = record {
     groups = other.lists.groups ∙ one.lists.groups;
     members = other.lists.members ∙ one.lists.members;
     grants = other.lists.grants ∙ one.lists.grants;
+  };
+  flows = record {
+    tasks = other.flows.tasks ∙ one.flows.tasks;
+    workflows = other.flows.workflows ∙ one.flows.workflows;
   };
   desks = other.desks ∙ one.desks;
   time = other.time ∙ one.time;
@@ -94,6 +102,22 @@ same_grants kept grants same = record {
   pages = refl;
   revisions = refl;
   lists = same;
+  flows = record { tasks = refl; workflows = refl };
+  desks = refl;
+  time = refl;
+  next_page = refl;
+  next_revision = refl;
+  indexes = record { expiries = refl; go_lives = refl; aliases = refl; links = refl };
+}
+
+-- with the same tasks and workflows all is the same
+pub same_flows : (kept : TreePart) (flows : FlowLists) → SameFlows kept.flows flows →
+    IsSame kept (record kept { flows = flows })
+same_flows kept flows same = record {
+  pages = refl;
+  revisions = refl;
+  lists = record { users = refl; groups = refl; members = refl; grants = refl };
+  flows = same;
   desks = refl;
   time = refl;
   next_page = refl;
@@ -108,6 +132,7 @@ same_shelf kept shelf is = record {
   pages = refl;
   revisions = is;
   lists = record { users = refl; groups = refl; members = refl; grants = refl };
+  flows = record { tasks = refl; workflows = refl };
   desks = refl;
   time = refl;
   next_page = refl;
@@ -122,6 +147,7 @@ same_pairs kept pairs is = record {
   pages = refl;
   revisions = refl;
   lists = record { users = refl; groups = refl; members = refl; grants = refl };
+  flows = record { tasks = refl; workflows = refl };
   desks = is;
   time = refl;
   next_page = refl;
@@ -134,8 +160,8 @@ pub same_seen : (before after : TreePart) → IsSame before after → seen after
 same_seen before after same =
     lists_are (seen after) (seen before) same.pages same.revisions
     (people_are (seen_people after.grants) (seen_people before.grants) same.lists.users
-    (ap (λ n. n + 1) same.lists.groups) same.lists.members same.lists.grants) refl refl same.desks
-    same.time same.next_page same.next_revision
+    (ap (λ n. n + 1) same.lists.groups) same.lists.members same.lists.grants)
+    same.flows.tasks same.flows.workflows same.desks same.time same.next_page same.next_revision
 
 -- what is in step is so with other room
 same_in_step : (before after : TreePart) → IsSame before after → InStep before → InStep after

@@ -1,10 +1,9 @@
--- What the step comes to: a refusal by its first rules, as it is not built, or by a rule of its own;
--- or what the command does, with the desks that it opens and ends.
-use Rattle.std.proofs.Common.{◌≡◌, ℕ, Bool, true, false, not, ◌||◌, ◌&&◌, List, [], ◌∷◌, filter, Option, Some, None, Result, Ok, Err, refl, sym, ap, ◌∙◌}
+-- What the step comes to: a refusal by its first rules or by a rule of its own; or what the command
+-- does, with the desks that it opens and ends.
+use Rattle.std.proofs.Common.{◌≡◌, ℕ, Bool, false, not, ◌||◌, ◌&&◌, List, [], ◌∷◌, filter, Option, Some, None, Result, Ok, Err, refl, sym, ap, ◌∙◌}
 use Rattle.site_types.specs.Content.{ContentValue}
 use Rattle.site_types.specs.declared.command.Command.{Command}
 use Rattle.site_types.specs.declared.refusal.Refusal.{Refusal}
-use Rattle.site_types.specs.declared.refusal.Refusal.TheVariants.{NothingNew}
 use Rattle.site_types.specs.declared.reply.Reply.{Reply}
 use Rattle.site_model.specs.World.{DeskPair, Desk, TreePart, Deed, Effect}
 use Rattle.site_model.specs.Create.{plain_deed}
@@ -12,7 +11,7 @@ use Rattle.site_model.specs.Desks.{desk_key, desk_page, desk_opened, is_shut, is
 use Rattle.site_model.specs.Front.{front_rules}
 use Rattle.site_model.specs.Losing.{Suspects, NoDesk, suspects_of, is_suspect, shuts, is_lost, lost_desks, LosesFew}
 use Rattle.site_model.specs.Sound.{IsSoundPart}
-use Rattle.site_model.specs.Step.{is_built, rules, step_by}
+use Rattle.site_model.specs.Step.{rules, step_by}
 use Rattle.site_model.specs.Step as steps
 use Rattle.site_model.specs.Users.{put_in}
 use Rattle.site_model.proofs.LosingSteps.{each_few, ended_are}
@@ -30,26 +29,20 @@ module _ (part : TreePart) (desk : Option ContentValue) (now caller : ℕ) (comm
   unfolding step_by
   front_refuses refusal is = rw is refl
 
-  -- a command that is not built
-  pub not_built : front_rules part caller command ≡ None → is_built command ≡ false →
-      step_by part desk now caller command ≡ Err NothingNew
-  unfolding step_by
-  not_built front is = rw (front, is) refl
-
   -- a command that a rule of its own refuses
   pub own_refuses : (refusal : Refusal) → front_rules part caller command ≡ None →
-      is_built command ≡ true → rules part desk now caller command ≡ Some refusal →
+      rules part desk now caller command ≡ Some refusal →
       step_by part desk now caller command ≡ Err refusal
   unfolding step_by
-  own_refuses refusal front built is = rw (front, built, is) refl
+  own_refuses refusal front is = rw (front, is) refl
 
   -- a command that no rule refuses
-  pub passed_step : front_rules part caller command ≡ None → is_built command ≡ true →
+  pub passed_step : front_rules part caller command ≡ None →
       rules part desk now caller command ≡ None →
       step_by part desk now caller command
       ≡ Ok (settled caller (desk_page command) (steps.effect part desk now caller command))
   unfolding step_by
-  passed_step front built none = rw (front, built, none) refl
+  passed_step front none = rw (front, none) refl
 
 -- a command that opens no desk opens none on any page
 none_opened : (caller : ℕ) (page : Option ℕ) (text : Option ContentValue) → text ≡ None →
@@ -101,7 +94,7 @@ told_by after reply pairs opened ended =
 
 module _ (part : TreePart) (desk : Option ContentValue) (now caller : ℕ) (command : Command)
     (sound : IsSoundPart part) (front : front_rules part caller command ≡ None)
-    (built : is_built command ≡ true) (none : rules part desk now caller command ≡ None) where
+    (none : rules part desk now caller command ≡ None) where
   -- the desks that a command ends are those that it may end and that are lost
   losing : (deed : Deed) → steps.effect part desk now caller command ≡ deed →
       LosesFew part (settled caller (desk_page command) deed).0
@@ -109,7 +102,7 @@ module _ (part : TreePart) (desk : Option ContentValue) (now caller : ℕ) (comm
   losing deed is =
       ended_are part (settled caller (desk_page command) deed).0
       (settled caller (desk_page command) deed).1 desk now caller command sound
-      (passed_step part desk now caller command front built none
+      (passed_step part desk now caller command front none
       ∙ ap (λ (one : Deed). Ok (settled caller (desk_page command) one)) is)
 
   -- the desks that it ends go, and it opens none
@@ -142,7 +135,7 @@ module _ (part : TreePart) (desk : Option ContentValue) (now caller : ℕ) (comm
       ended
       ∙ pairs_agree (is_lost part deed.part caller command) part.desk_pairs
       sound.desks.desks_rise)) in
-      passed_step part desk now caller command front built none
+      passed_step part desk now caller command front none
       ∙ (ap (λ (one : Deed). Ok (settled caller page one)) is
       ∙ (ap (λ (pairs : List DeskPair). told_by deed.part deed.reply pairs made.1.opened made.1.ended)
       left
@@ -238,7 +231,7 @@ module _ (part : TreePart) (desk : Option ContentValue) (now caller : ℕ) (comm
       ∙ (ap (λ (gone : List DeskPair). filter (λ pair. not (is_ended gone pair))
       (put_in desk_key (record { page = page; user = caller }) part.desk_pairs)) ended
       ∙ none_ended (put_in desk_key (record { page = page; user = caller }) part.desk_pairs))) in
-      passed_step part desk now caller command front built none
+      passed_step part desk now caller command front none
       ∙ (ap (λ (one : Deed). Ok (settled caller (desk_page command) one)) is
       ∙ (ap (λ (left : List DeskPair). told_by after reply left made.1.opened made.1.ended) pairs
       ∙ (ap (λ (one : Option Desk). told_by after reply
@@ -250,7 +243,7 @@ module _ (part : TreePart) (desk : Option ContentValue) (now caller : ℕ) (comm
 module _ (part : TreePart) (desk : Option ContentValue) (now caller : ℕ) (command : Command) where
   -- A command that no rule refuses and that opens no desk: the desks that it ends go.
   pub settled_step : (deed : Deed) → IsSoundPart part → front_rules part caller command ≡ None →
-      is_built command ≡ true → rules part desk now caller command ≡ None →
+      rules part desk now caller command ≡ None →
       steps.effect part desk now caller command ≡ deed → deed.opened ≡ None →
       step_by part desk now caller command
       ≡ Ok (
@@ -264,13 +257,13 @@ module _ (part : TreePart) (desk : Option ContentValue) (now caller : ℕ) (comm
           ended = lost_desks part deed.part caller command;
         },
       )
-  settled_step deed sound front built none is opened =
-      settled_with part desk now caller command sound front built none deed is opened
+  settled_step deed sound front none is opened =
+      settled_with part desk now caller command sound front none deed is opened
 
   -- A command that no rule refuses, and that opens and shuts no desk: its suspects go that do not
   -- stay.
   pub ending_step : (after : TreePart) (reply : Reply) → IsSoundPart part →
-      front_rules part caller command ≡ None → is_built command ≡ true →
+      front_rules part caller command ≡ None →
       rules part desk now caller command ≡ None →
       steps.effect part desk now caller command ≡ plain_deed after reply →
       after.desk_pairs ≡ part.desk_pairs →
@@ -281,23 +274,23 @@ module _ (part : TreePart) (desk : Option ContentValue) (now caller : ℕ) (comm
         },
         record { reply = reply; opened = None; ended = ended_by part after command },
       )
-  ending_step after reply sound front built none is pairs =
-      ending_with part desk now caller command sound front built none after reply is
+  ending_step after reply sound front none is pairs =
+      ending_with part desk now caller command sound front none after reply is
 
   -- A command that no rule refuses, and that can end no desk.
   pub quiet_step : (after : TreePart) (reply : Reply) → IsSoundPart part →
-      front_rules part caller command ≡ None → is_built command ≡ true →
+      front_rules part caller command ≡ None →
       rules part desk now caller command ≡ None →
       steps.effect part desk now caller command ≡ plain_deed after reply →
       after.desk_pairs ≡ part.desk_pairs → suspects_of command ≡ NoDesk →
       shuts command ≡ false →
       step_by part desk now caller command ≡ Ok (after, plain reply)
-  quiet_step after reply sound front built none is pairs harmless unshut =
-      quiet_with part desk now caller command sound front built none after reply is pairs harmless
+  quiet_step after reply sound front none is pairs harmless unshut =
+      quiet_with part desk now caller command sound front none after reply is pairs harmless
 
   -- A command that no rule refuses, and that opens a desk and can end none.
   pub opening_step : (after : TreePart) (reply : Reply) (page : ℕ) (text : ContentValue) →
-      IsSoundPart part → front_rules part caller command ≡ None → is_built command ≡ true →
+      IsSoundPart part → front_rules part caller command ≡ None →
       rules part desk now caller command ≡ None →
       steps.effect part desk now caller command
       ≡ record { part = after; reply = reply; opened = Some text; shut = false } →
@@ -313,6 +306,6 @@ module _ (part : TreePart) (desk : Option ContentValue) (now caller : ℕ) (comm
           ended = [];
         },
       )
-  opening_step after reply page text sound front built none is at harmless =
-      opening_with part desk now caller command sound front built none after reply page text is at
+  opening_step after reply page text sound front none is at harmless =
+      opening_with part desk now caller command sound front none after reply page text is at
       harmless

@@ -1,12 +1,10 @@
 -- What is told of rights: what is held, the first need that is not met, and what the first rules say.
-use Rattle.std.specs.Prelude.{◌≡◌, ℕ, Bool, false, ◌==◌, Option, Some, None, Result, Ok, Err}
-use Rattle.page_tree.specs.Tree.{Forest}
-use Rattle.site_types.specs.declared.body.Body.{Body}
+use Rattle.std.specs.Prelude.{ℕ, Bool, true, false, ◌==◌, Option, Some, None, Result, Ok, Err}
 use Rattle.site_types.specs.declared.permission.Permission.{Permission}
 use Rattle.site_types.specs.declared.permission.Permission.TheVariants.{Add, Change, Publish, BulkDelete, Lock, Unlock}
 use Rattle.site_types.specs.declared.refusal.Refusal.{Refusal}
-use Rattle.tree_model.specs.Shape.{AllPages}
 use Rattle.site_model.specs.Rights as rights
+use Rattle.site_model.specs.Views.{Stage, is_asked}
 use Rattle.grants.specs.declared.right.Held.{Held}
 use Rattle.grants.specs.declared.need.Need.{Need}
 
@@ -50,6 +48,8 @@ is_held held BulkDelete = held.bulk_delete
 is_held held Lock = held.lock
 is_held held Unlock = held.unlock
 
--- No page is moderated: tasks and workflows are not kept in memory yet.
-abbrev pub NoModeration : Forest Body → Type 0
-NoModeration tree = AllPages (λ id slug body. body.moderation ≡ None) tree
+-- whether one with these rights may answer a moderation that stands here: if it is in progress, only
+-- members of a group of its current task may
+abbrev pub answers : rights.Rights → Option Stage → Bool
+answers asked None = true
+answers asked (Some stage) = is_asked asked stage

@@ -18,6 +18,8 @@ use Rattle.flat_model.specs.declared.change.TreeChange.{TreeChange}
 use Rattle.flat_model.specs.declared.change.TreeChange.TheVariants as trees
 use Rattle.flat_model.specs.declared.change.PeopleChange.{PeopleChange}
 use Rattle.flat_model.specs.declared.change.PeopleChange.TheVariants as people
+use Rattle.flat_model.specs.declared.change.FlowChange.{FlowChange}
+use Rattle.flat_model.specs.declared.change.FlowChange.TheVariants as flows
 use Rattle.grants.specs.declared.fault.Fault.{Fault}
 use Rattle.grants.specs.declared.fault.Fault.TheVariants.{Refused, Memory}
 use Rattle.grants.specs.declared.part.TreePart.{TreePart}
@@ -45,6 +47,12 @@ people_needed people.Group = 0
 people_needed (people.Member user group on) = 1
 people_needed (people.Grant group page permission on) = 1
 
+-- how much room for tasks and workflows a change of them takes
+abbrev pub flows_needed : FlowChange → ℕ
+flows_needed flows.Nothing = 0
+flows_needed (flows.Task groups) = 1
+flows_needed (flows.Workflow tasks) = 1
+
 -- how much room for open desks a plan takes
 abbrev pub desks_needed : Option (ℕ × ℕ × ContentValue) → ℕ
 desks_needed None = 0
@@ -55,6 +63,7 @@ pub record HasRoom (kept : TreePart) (plan : Plan) : Type 0 where
   pub rows : rows_needed plan.change.tree ≤ kept.rows.spare
   pub revisions : length plan.change.revisions ≤ kept.shelf.spare
   pub people : people_needed plan.change.people ≤ kept.grants.spare
+  pub flows : flows_needed plan.change.flows ≤ kept.flows.spare
   pub desks : desks_needed plan.opened ≤ kept.desk_pairs.spare
 
 -- a desk as a plan has it: its page, its user and its text

@@ -1,9 +1,10 @@
 -- How the tree part in memory stands for a world's.
-use Rattle.std.specs.Prelude.{◌≡◌, ◌+◌, []}
+use Rattle.std.specs.Prelude.{◌≡◌, ◌+◌}
 use Rattle.page_tree.specs.Rows.{rows_of}
 use Rattle.site_model.specs.World as worlds
 use Rattle.site_model.specs.Reached.{IsReachedPart}
 use Rattle.flat_model.specs.Lists.{PeopleLists, PartLists}
+use Rattle.workflow.specs.Flows.{FlowsStandFor, SameFlows}
 use Rattle.publishing.specs.Times.{AreTimed}
 use Rattle.link_plans.specs.PageLinks.{AreAliases, AreLinked}
 use Rattle.grants.specs.declared.part.TreePart.{TreePart}
@@ -19,15 +20,15 @@ seen_people kept =
       grants = kept.grants;
     }
 
--- What is in memory, as lists: no task and no workflow is kept yet.
+-- what is in memory, as lists
 abbrev pub seen : TreePart → PartLists
 seen kept =
     record {
       pages = kept.rows.pages;
       revisions = kept.shelf.revisions;
       people = seen_people kept.grants;
-      tasks = [];
-      workflows = [];
+      tasks = kept.flows.tasks;
+      workflows = kept.flows.workflows;
       desk_pairs = kept.desk_pairs.pairs;
       time = kept.time;
       next_page = kept.next_page;
@@ -57,6 +58,7 @@ pub record IsSame (before after : TreePart) : Type 0 where
   pub pages : after.rows.pages ≡ before.rows.pages
   pub revisions : after.shelf.revisions ≡ before.shelf.revisions
   pub lists : SameLists before.grants after.grants
+  pub flows : SameFlows before.flows after.flows
   pub desks : after.desk_pairs.pairs ≡ before.desk_pairs.pairs
   pub time : after.time ≡ before.time
   pub next_page : after.next_page ≡ before.next_page
@@ -64,14 +66,13 @@ pub record IsSame (before after : TreePart) : Type 0 where
   pub indexes : SameIndexes before after
 
 -- What is in memory is what the world has: the rows of its tree, the revisions, the users, groups,
--- memberships and grants, the open desks, the time and the next ids; what is found fast is in step with
--- them; and the world has nothing that is not kept yet.
+-- memberships and grants, the tasks and workflows, the open desks, the time and the next ids; and what is
+-- found fast is in step with them.
 pub record StandsFor (kept : TreePart) (part : worlds.TreePart) : Type 0 where
   pub pages : kept.rows.pages ≡ rows_of part.tree
   pub revisions : kept.shelf.revisions ≡ part.revisions
   pub lists : ListsStandFor kept.grants part
-  pub no_tasks : part.tasks ≡ []
-  pub no_workflows : part.workflows ≡ []
+  pub flows : FlowsStandFor kept.flows part
   pub desks : kept.desk_pairs.pairs ≡ part.desk_pairs
   pub time : kept.time ≡ part.time
   pub next_page : kept.next_page ≡ part.next_page

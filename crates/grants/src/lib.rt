@@ -2,6 +2,7 @@
 //! with the plans of what commands change in it.
 #![tactic(auto)]
 
+mod asking;
 mod define;
 mod digest;
 mod fault;
@@ -20,7 +21,7 @@ mod spans;
 mod store;
 
 pub use fault::Fault;
-pub use flat_model::{Change, PeopleChange, TreeChange};
+pub use flat_model::{Change, FlowChange, PeopleChange, TreeChange};
 pub use living::is_live_page;
 pub use need::{Need, may};
 pub use part::TreePart;

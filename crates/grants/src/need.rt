@@ -10,7 +10,7 @@ ghost use Rattle.tree_model.specs.Places.{is_beside, parent_at};
 ghost use Rattle.command_rows.specs.Naming.{NamesPages};
 ghost use Rattle.command_rows.specs.Needs.{AreNamed, seen_needs};
 ghost use Rattle.grants.specs.Standing.{StandsFor};
-ghost use Rattle.grants.specs.Needs.{NoModeration, is_by, need_told, seen_held};
+ghost use Rattle.grants.specs.Needs.{is_by, need_told, seen_held};
 
 use crate::TreePart;
 use crate::granting::number;
@@ -27,6 +27,9 @@ const CHANGE: u8 = 2;
 /// The need to be a superuser.
 const SUPERUSER: u8 = 7;
 
+/// The need to be asked by the current task of a moderation.
+const ANSWER: u8 = 8;
+
 /// A need of a command that its caller does not meet: a permission from 1 to 6 (add, change, publish,
 /// bulk delete, lock, unlock), 7, to be a superuser, or 8, to be asked by the current task.
 #[derive(Clone, Copy, Debug, PartialEq, Eq)]
@@ -37,12 +40,11 @@ pub struct Need {
 
 /// Whether a user may give a command, or the first need that the user does not meet.
 ///
-/// No page is moderated as yet, so that moderators have no rights of their own. It costs what is held
-/// at the pages that the command names, and for a deletion, a move or another slug a look at each page
-/// that goes along.
+/// It costs what is held at the pages that the command names, for a moderated page at most 16 searches
+/// among the user's groups, and for a deletion, a move or another slug a look at each page that goes along.
 pub fn may(part: &TreePart, user: UserId, command: &Command) -> Result<(), Need>
     requires { (world : worlds.TreePart) × StandsFor part.now world × NamesPages world.tree command.now }
-    ensures { (world : worlds.TreePart) → StandsFor part.now world → NoModeration world.tree
+    ensures { (world : worlds.TreePart) → StandsFor part.now world
         → result ≡ need_told (needs.may world user command.now) }
 {
     let row = need_row(command);
@@ -55,7 +57,7 @@ pub fn may(part: &TreePart, user: UserId, command: &Command) -> Result<(), Need>
 /// The number of the first need that a user does not meet, if there is one.
 fn first_need(part: &TreePart, user: UserId, row: &NeedRow) -> Option<u8>
     requires { AreNamed (λ page. IsSome (row_with page part.now.rows.pages)) row.now }
-    ensures { (world : worlds.TreePart) → StandsFor part.now world → NoModeration world.tree
+    ensures { (world : worlds.TreePart) → StandsFor part.now world
         → result ≡ needs.unmet world user (seen_needs world user row.now) }
 {
     if part.grants.is_superuser(user) {
@@ -75,7 +77,7 @@ fn first_need(part: &TreePart, user: UserId, row: &NeedRow) -> Option<u8>
         NeedRow::Edit(page) => edit_need(part, user, *page),
         NeedRow::Hold(permission, page) => hold_need(part, user, *permission, *page),
         NeedRow::Unlock(page) => unlock_need(part, user, *page),
-        NeedRow::Answer(_) => None,
+        NeedRow::Answer(page) => answer_need(part, user, *page),
         NeedRow::Cancel(page) => cancel_need(part, user, *page),
     }
 }
@@ -208,7 +210,7 @@ fn take_need(part: &TreePart, held: Held, user: UserId, page: PageId) -> Option<
 /// The first need of another slug that is not met.
 fn rename_need(part: &TreePart, user: UserId, page: PageId) -> Option<u8>
     requires { IsSome (row_with page part.now.rows.pages) }
-    ensures { (world : worlds.TreePart) → StandsFor part.now world → NoModeration world.tree
+    ensures { (world : worlds.TreePart) → StandsFor part.now world
         → result ≡ needs.first_unmet (needs.slug_needs world user page) }
 {
     match edit_need(part, user, page) {
@@ -245,7 +247,7 @@ fn show_need(part: &TreePart, user: UserId, page: PageId, at: PageId) -> Option<
 /// The first need of making an alias a regular page that is not met.
 fn detach_need(part: &TreePart, user: UserId, page: PageId) -> Option<u8>
     requires { IsSome (row_with page part.now.rows.pages) }
-    ensures { (world : worlds.TreePart) → StandsFor part.now world → NoModeration world.tree
+    ensures { (world : worlds.TreePart) → StandsFor part.now world
         → result ≡ needs.first_unmet (needs.detach_needs world user page) }
 {
     match edit_need(part, user, page) {
@@ -254,26 +256,43 @@ fn detach_need(part: &TreePart, user: UserId, page: PageId) -> Option<u8>
     }
 }
 
-/// The need to edit a page that is not moderated: to hold change at it, or to hold add at it and own it.
+/// The need to edit a page: to hold change at it, to hold add at it and own it, or to moderate it.
 fn edit_need(part: &TreePart, user: UserId, page: PageId) -> Option<u8>
     requires { IsSome (row_with page part.now.rows.pages) }
-    ensures { (world : worlds.TreePart) → StandsFor part.now world → NoModeration world.tree
+    ensures { (world : worlds.TreePart) → StandsFor part.now world
         → result ≡ needs.edit_need world user page }
 {
     let held = part.grants.held(&part.rows, user, page);
     let body = body_at(&part.rows, page);
-    if may_edit(held, &body, user) {
+    if may_edit(part, held, &body, user) {
         None
     } else {
         Some(CHANGE)
     }
 }
 
-/// Whether one who holds this may edit the page of which this is kept, if it is not moderated.
-fn may_edit(held: Held, body: &Body, user: UserId) -> bool
-    ensures { result ≡ held.change || (held.add && (body.now.owner == user)) }
+/// Whether one who holds this may edit the page of which this is kept.
+fn may_edit(part: &TreePart, held: Held, body: &Body, user: UserId) -> bool
+    ensures { (world : worlds.TreePart) → StandsFor part.now world
+        → result ≡ held.change || ((held.add && (body.now.owner == user))
+        || views.moderates (rights.rights_of world user)
+        (views.stage_of world body.now.moderation)) }
 {
-    held.change || held.add && body.owner == user
+    held.change || held.add && body.owner == user || part.grants.moderates(&part.flows, user, body)
+}
+
+/// The need to answer a moderation.
+fn answer_need(part: &TreePart, user: UserId, page: PageId) -> Option<u8>
+    requires { IsSome (row_with page part.now.rows.pages) }
+    ensures { (world : worlds.TreePart) → StandsFor part.now world
+        → result ≡ needs.first_unmet (needs.answer_needs world user page) }
+{
+    let body = body_at(&part.rows, page);
+    if part.grants.may_answer(&part.flows, user, &body) {
+        None
+    } else {
+        Some(ANSWER)
+    }
 }
 
 /// The need to unlock a page, which whoever has locked it does not have.

@@ -6,10 +6,11 @@ use page_store::Rows;
 use revision_shelf::Shelf;
 use site_types::Moment;
 use time_table::Times;
+use workflow::Flows;
 
 /// All of the site in memory but the texts of open desks: the rows of its pages, their revisions, who
-/// may do what, which desks are open, the time, the next ids, and what is found fast by the rows and
-/// the revisions.
+/// may do what, the tasks and workflows, which desks are open, the time, the next ids, and what is found
+/// fast by the rows and the revisions.
 #[derive(Debug, Drop)]
 pub struct TreePart {
     /// The rows of the pages.
@@ -18,6 +19,8 @@ pub struct TreePart {
     pub shelf: Shelf,
     /// Users, groups, memberships and grants.
     pub grants: Grants,
+    /// Tasks and workflows.
+    pub flows: Flows,
     /// The open desks without their texts.
     pub desk_pairs: DeskPairs,
     /// The greatest moment of a command that was accepted.

@@ -130,7 +130,7 @@ fn given_by(grant: &Grant, members: &[Member]) -> Held
     requires { KeysRise group_key members.now }
     ensures { result ≡ held_where (λ permission. gives_any members.now permission grant.now) }
 {
-    if has_group(members, grant.group) {
+    if has_group(members, grant.group.get()) {
         alone(grant.permission)
     } else {
         NOTHING

@@ -6,7 +6,7 @@ ghost use Rattle.site_model.specs.Users.{member_key, grant_key};
 ghost use Rattle.desk_pairs.specs.Places.{place_of, passes};
 ghost use Rattle.grants.specs.Granted.{group_key};
 
-use site_types::{Grant, GroupId, Member, PageId, UserId};
+use site_types::{Grant, Member, PageId, UserId};
 
 /// The memberships of a user. Two searches.
 pub(crate) fn members_of(members: &[Member], user: UserId) -> &[Member]
@@ -20,8 +20,8 @@ pub(crate) fn members_of(members: &[Member], user: UserId) -> &[Member]
     &rest[..end]
 }
 
-/// Whether one of the memberships, which rise by group, is in the group. One search.
-pub(crate) fn has_group(members: &[Member], group: GroupId) -> bool
+/// Whether one of the memberships, which rise by group, is in the group with this number. One search.
+pub(crate) fn has_group(members: &[Member], group: u32) -> bool
     requires { KeysRise group_key members.now }
     ensures { result ≡ list_any (λ member. member.group == group) members.now }
 {
@@ -29,19 +29,19 @@ pub(crate) fn has_group(members: &[Member], group: GroupId) -> bool
 }
 
 /// The number of memberships in groups before this one.
-fn place_of_group(members: &[Member], group: GroupId) -> usize
+fn place_of_group(members: &[Member], group: u32) -> usize
     requires { KeysRise group_key members.now }
     ensures { result ≡ place_of group_key (group ∷ []) members.now }
 {
-    members.partition_point(|member| member.group < group)
+    members.partition_point(|member| member.group.get() < group)
 }
 
 /// Whether the membership at a place is in the group.
-fn is_in(members: &[Member], place: usize, group: GroupId) -> bool
+fn is_in(members: &[Member], place: usize, group: u32) -> bool
     ensures { result ≡ passes (λ member. member.group == group) (slice_get members.now place) }
 {
     match members.get(place) {
-        Some(member) => member.group == group,
+        Some(member) => member.group.get() == group,
         None => false,
     }
 }

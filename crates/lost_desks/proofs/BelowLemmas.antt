@@ -1,5 +1,5 @@
 -- The pages from one above another down to that other one, and what is granted on that way.
-use Rattle.std.proofs.Common.{◌≡◌, ℕ, Bool, true, false, cond, not, ◌&&◌, ◌||◌, nat_eq, List, [], ◌∷◌, ◌++◌, Option, Some, None, IsSome, map, filter, refl, sym, ap, ◌∙◌, arith}
+use Rattle.std.proofs.Common.{◌≡◌, ℕ, Bool, true, false, cond, not, ◌&&◌, ◌||◌, nat_eq, List, [], ◌∷◌, ◌++◌, Option, Some, None, IsSome, map, refl, sym, ap, ◌∙◌, arith}
 use Rattle.std.specs.List.{list_any}
 use Rattle.std.specs.Prelude.{option_and_then}
 use Rattle.std.proofs.lemmas.Bool.Decides.{nat_tests}
@@ -15,7 +15,7 @@ use Rattle.page_store.specs.Pages.{Page, ArePages}
 use Rattle.site_model.specs.World.{TreePart}
 use Rattle.site_model.specs.Rights as rights
 use Rattle.site_model.specs.Rights.{rights_of, groups_of, has_group, permits, gives, is_same}
-use Rattle.site_model.specs.Views.{body_of, view_of, meets}
+use Rattle.site_model.specs.Views.{stage_of, body_of, view_of, meets, moderates}
 use Rattle.site_model.specs.Losing.{is_within}
 use Rattle.site_model.specs.LosingLaws.{from_page, between, edits_below, is_lost_below}
 use Rattle.site_model.proofs.ViewLemmas.{view_is}
@@ -207,33 +207,30 @@ module _ (pages : List Page) (are : ArePages pages) (world : TreePart)
         never true fails holds = cc
         never false fails holds = cc
 
--- two ways to edit, of which each is held at the parent or granted below it, and a third that is closed
-edit_ways : (change given add more own : Bool) →
-    (change || given) || ((add || more) && own)
-    ≡ (change || given) || (((add || more) && own) || false)
-edit_ways true given add more own = refl
-edit_ways false true add more own = refl
-edit_ways false false true more true = refl
-edit_ways false false true more false = refl
-edit_ways false false false true true = refl
-edit_ways false false false true false = refl
-edit_ways false false false false own = refl
+-- three ways to edit, one after the other
+edit_ways : (change own asked : Bool) → (change || own) || asked ≡ change || (own || asked)
+edit_ways true own asked = refl
+edit_ways false own asked = refl
 
 module _ (world : TreePart) (top parent page user : ℕ) where
-  -- Whether a user may edit a page that is not moderated once one above it is below a parent.
-  pub edits_if : (body : Body) (held granted : Held) → body_of world.tree page ≡ Some body →
-      body.moderation ≡ None → seen_held held ≡ rights.held world user parent →
+  -- Whether a user may edit a page once one above it is below a parent.
+  pub edits_if : (body : Body) (held granted : Held) (asked : Bool) →
+      body_of world.tree page ≡ Some body →
+      asked ≡ moderates (rights_of world user) (stage_of world body.moderation) →
+      seen_held held ≡ rights.held world user parent →
       granted ≡ held_where (λ p. list_any
       (λ id. list_any (permits p id) (rights_of world user).granted) (between world.tree top page)) →
-      (held.change || granted.change) || ((held.add || granted.add) && nat_eq body.owner user)
+      ((held.change || granted.change)
+      || ((held.add || granted.add) && nat_eq body.owner user)) || asked
       ≡ meets (edits_below world user parent (between world.tree top page)) (view_of world page)
-  edits_if body held granted kept none is below =
+  edits_if body held granted asked kept asked_is is below =
       let change = ap (λ (h : rights.Held). h.change) is in
       let add = ap (λ (h : rights.Held). h.add) is in
       let more_change = ap (λ (h : Held). h.change) below in
       let more_add = ap (λ (h : Held). h.add) below in
-      edit_ways held.change granted.change held.add granted.add (nat_eq body.owner user)
-      ∙ rw (view_is world page, kept, none, change, add, more_change, more_add) refl
+      edit_ways (held.change || granted.change)
+      ((held.add || granted.add) && nat_eq body.owner user) asked
+      ∙ rw (view_is world page, kept, asked_is, change, add, more_change, more_add) refl
 
   -- a desk on a page that is not below the one that is moved is not lost
   pub kept_outside : is_within world.tree top page ≡ false →

@@ -1,13 +1,14 @@
 -- The pages of the desks that end, one desk after another; and the desk on one page.
-use Rattle.std.proofs.Common.{◌≡◌, ℕ, zero, suc, ◌+◌, Bool, true, false, cond, not, ◌&&◌, nat_eq, nat_lt, List, [], ◌∷◌, ◌++◌, Option, Some, None, take, filter, slice_get, add-one, refl, sym, ap, ◌∙◌, arith}
+use Rattle.std.proofs.Common.{◌≡◌, ℕ, zero, suc, ◌+◌, Bool, true, false, cond, ◌&&◌, nat_eq, nat_lt, List, [], ◌∷◌, ◌++◌, Some, None, take, filter, slice_get, add-one, refl, sym, ap, arith}
 use Rattle.std.specs.List.{AllByRecursion}
 use Rattle.std.proofs.lemmas.Bool.Decides.{nat_tests}
 use Rattle.page_tree.specs.Rows.{comes_before}
 use Rattle.site_model.specs.World.{DeskPair}
 use Rattle.site_model.specs.Desks.{desk_key, desk_user}
 use Rattle.site_model.specs.Sound.{KeysRise}
+use Rattle.desk_pairs.specs.Pairs.{pair_of}
 use Rattle.grants.specs.Plans.{pages_of}
-use Rattle.lost_desks.specs.Losses.{page_lost, page_if_other}
+use Rattle.lost_desks.specs.Losses.{page_lost, page_if}
 
 module _ (test : DeskPair → Bool) where
   -- the pages of those that end among so many
@@ -78,40 +79,45 @@ same_page : (one other page : ℕ) → nat_eq one page ≡ true → nat_eq one o
     nat_eq other page ≡ false
 same_page one other page is differ = grind (arith, nat_tests)
 
-module _ (page caller : ℕ) where
-  -- whether a desk is on the page, and another's than the caller's
-  abbrev pub is_others : DeskPair → Bool
-  is_others pair = nat_eq pair.page page && not (nat_eq caller pair.user)
+module _ (page : ℕ) (test : DeskPair → Bool) where
+  -- whether a desk is on the page, and passes the test
+  abbrev pub is_on_and : DeskPair → Bool
+  is_on_and pair = nat_eq pair.page page && test pair
 
   -- after the desk on the page none is on it
   none_behind : (pair : DeskPair) (later : List DeskPair) → nat_eq pair.page page ≡ true →
       AllByRecursion (λ (other : DeskPair).
       comes_before (desk_key pair) (desk_key other) ≡ true) later →
-      filter is_others later ≡ []
+      filter is_on_and later ≡ []
   none_behind pair [] is all = refl
   none_behind pair (other ∷ later) is all =
       let differ = same_page pair.page other.page page is
       (later_page pair.page other.page all.0) in
       rw differ (none_behind pair later is all.1)
 
-  -- The desk on the page, if it is another's.
-  pub others_desk : (pairs : List DeskPair) → KeysRise desk_key pairs →
-      page_if_other page caller (desk_user pairs page) ≡ pages_of (filter is_others pairs)
-  others_desk [] rise = refl
-  others_desk (pair ∷ pairs) rise = choice (nat_eq pair.page page) refl (others_desk pairs rise.1)
+  -- The desk on the page, if it passes the test.
+  pub desk_alone : (pairs : List DeskPair) → KeysRise desk_key pairs →
+      page_if (λ user. test (pair_of page user)) page (desk_user pairs page)
+      ≡ pages_of (filter is_on_and pairs)
+  desk_alone [] rise = refl
+  desk_alone (pair ∷ pairs) rise = choice (nat_eq pair.page page) refl (desk_alone pairs rise.1)
     where
       own : nat_eq pair.page page ≡ true → pair.page ≡ page
       own is = grind (arith, nat_tests)
 
       mine : (t : Bool) → pair.page ≡ page →
-          cond t [] (page ∷ []) ≡ pages_of (cond (not t) (pair ∷ []) [])
-      mine true same = refl
-      mine false same = ap (λ id. id ∷ []) (sym same)
+          cond t (page ∷ []) [] ≡ pages_of (cond t (pair ∷ []) [])
+      mine true same = ap (λ id. id ∷ []) (sym same)
+      mine false same = refl
+
+      tested : pair.page ≡ page → test (pair_of page pair.user) ≡ test pair
+      tested same = ap (λ id. test (pair_of id pair.user)) (sym same)
 
       choice : (t : Bool) → nat_eq pair.page page ≡ t →
-          page_if_other page caller (desk_user pairs page) ≡ pages_of (filter is_others pairs) →
-          page_if_other page caller (desk_user (pair ∷ pairs) page)
-          ≡ pages_of (filter is_others (pair ∷ pairs))
+          page_if (λ user. test (pair_of page user)) page (desk_user pairs page)
+          ≡ pages_of (filter is_on_and pairs) →
+          page_if (λ user. test (pair_of page user)) page (desk_user (pair ∷ pairs) page)
+          ≡ pages_of (filter is_on_and (pair ∷ pairs))
       choice true is more =
-          rw (is, none_behind pair pairs is rise.0) (mine (nat_eq caller pair.user) (own is))
+          rw (is, none_behind pair pairs is rise.0, tested (own is)) (mine (test pair) (own is))
       choice false is more = rw is more

@@ -1,5 +1,5 @@
 -- Whether a page is on the way to another, by the page above that one.
-use Rattle.std.proofs.Common.{◌≡◌, ℕ, Bool, true, false, ◌||◌, nat_eq, List, [], ◌∷◌, ◌++◌, Option, Some, None, IsSome, map, refl, sym, ap, ◌∙◌}
+use Rattle.std.proofs.Common.{◌≡◌, ℕ, Bool, true, false, ◌||◌, nat_eq, List, [], ◌∷◌, Option, Some, None, IsSome, map, refl, sym, ap, ◌∙◌}
 use Rattle.std.specs.List.{list_any}
 use Rattle.std.specs.Prelude.{option_and_then}
 use Rattle.std.specs.Option.{option_map}
@@ -12,7 +12,7 @@ use Rattle.page_store.specs.Pages.{Page, ArePages}
 use Rattle.site_model.specs.Views.{last_visit, body_of}
 use Rattle.site_model.specs.Losing.{is_within}
 use Rattle.site_model.proofs.ViewLemmas.{walk_ends}
-use Rattle.grants.proofs.AboveLemmas.{ids_to, ids_above}
+use Rattle.grants.proofs.AboveLemmas.{ids_above}
 use Rattle.grants.proofs.UpLemmas.{walk_up}
 
 -- a walk on which no last page is found leads nowhere

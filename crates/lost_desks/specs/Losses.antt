@@ -34,7 +34,7 @@ abbrev pub page_lost : (DeskPair → Bool) → Option DeskPair → Option ℕ
 page_lost ends None = None
 page_lost ends (Some pair) = if ends pair then Some pair.page else None
 
--- the page, if a desk on it is of another user than the caller
-abbrev pub page_if_other : ℕ → ℕ → Option ℕ → List ℕ
-page_if_other page caller None = []
-page_if_other page caller (Some user) = if caller == user then [] else page ∷ []
+-- the page, if a desk on it is of a user for whom the test holds
+abbrev pub page_if : (ℕ → Bool) → ℕ → Option ℕ → List ℕ
+page_if test page None = []
+page_if test page (Some user) = if test user then page ∷ [] else []

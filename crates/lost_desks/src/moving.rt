@@ -80,7 +80,8 @@ fn may_edit_below(
     let held = part.grants.held(&part.rows, user, parent);
     let granted = granted_from(part, top, page, user);
     let own = body.owner == user;
-    held.change | granted.change | ((held.add | granted.add) & own)
+    let asked = part.grants.moderates(&part.flows, user, body);
+    held.change | granted.change | ((held.add | granted.add) & own) | asked
 }
 
 /// What is granted to a user's groups at the pages from `top` down to a page at or below it.

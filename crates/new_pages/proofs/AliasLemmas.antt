@@ -76,7 +76,6 @@ module _ (kept : TreePart) (part : worlds.TreePart) (desk : Option ContentValue)
       (page_reply part.next_page after.tree)
   quiet =
       let ends = alias_quiet source parent slug in record {
-        built = refl;
         clear = alias_own part desk now caller source parent slug ∙ clear;
         own = alias_desk source parent slug;
         done = alias_done part desk now caller source parent slug;

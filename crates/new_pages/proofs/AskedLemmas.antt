@@ -1,11 +1,11 @@
 -- What is told of a command that its first rules do not refuse.
-use Rattle.std.proofs.Common.{◌≡◌, ℕ, true, List, Option, Err, sym, ap, subst, ◌∙◌}
+use Rattle.std.proofs.Common.{◌≡◌, ℕ, List, Option, Err, sym, ap, subst, ◌∙◌}
 use Rattle.site_types.specs.Content.{ContentValue}
 use Rattle.site_types.specs.declared.command.Command.{Command}
 use Rattle.site_types.specs.declared.refusal.Refusal.{Refusal}
 use Rattle.site_types.specs.declared.reply.Reply.{Reply}
 use Rattle.site_model.specs.World as worlds
-use Rattle.site_model.specs.Step.{is_built, rules}
+use Rattle.site_model.specs.Step.{rules}
 use Rattle.flat_model.specs.declared.change.Change.{Change}
 use Rattle.grants.specs.Plans.{Prepares, HasPlan, quiet_plan}
 use Rattle.grants.specs.declared.fault.Fault.{Fault}
@@ -18,14 +18,14 @@ use Rattle.new_pages.specs.Plans.{PlansBy, IsAsked}
 -- the command's own rules refuse a command that is asked for
 pub own_refused : {X : Type 0} (kept room : TreePart) (part : worlds.TreePart)
     (desk : Option ContentValue) (now caller : ℕ) (command : Command) →
-    IsAsked kept part caller command → is_built command ≡ true → (refused : Option Refusal) →
+    IsAsked kept part caller command → (refused : Option Refusal) →
     rules part desk now caller command ≡ refused → (IsRight : X → Type 0) (fault : Fault) →
     PlansBy refused IsRight (Err fault) →
     Prepares part desk now caller command room (Err fault)
-own_refused kept room part desk now caller command asked built refused own IsRight
+own_refused kept room part desk now caller command asked refused own IsRight
     (Refused refusal) is =
-    own_refuses part desk now caller command refusal asked.front built (own ∙ is)
-own_refused kept room part desk now caller command asked built refused own IsRight Memory is = tt
+    own_refuses part desk now caller command refusal asked.front (own ∙ is)
+own_refused kept room part desk now caller command asked refused own IsRight Memory is = tt
 
 -- a plan that was built is the one that was planned
 pub planned_is : (command : Command) (room : TreePart) (part : worlds.TreePart)

@@ -154,7 +154,6 @@ module _ (kept : TreePart) (part : worlds.TreePart) (desk : Option ContentValue)
   quiet : IsQuiet part desk now caller (Copy page parent slug deep) after reply
   quiet =
       let ends = copy_quiet page parent slug deep in record {
-        built = refl;
         clear = copy_own part desk now caller page parent slug deep ∙ clear;
         own = copy_desk page parent slug deep;
         done = copy_done part desk now caller page parent slug deep;
@@ -247,6 +246,7 @@ module _ (kept : TreePart) (part : worlds.TreePart) (desk : Option ContentValue)
     gone = tt;
     revisions = revisions_fit;
     people = tt;
+    flows = tt;
   }
 
   -- it leads to those of the world after it
@@ -351,4 +351,5 @@ module _ (kept : TreePart) (part : worlds.TreePart) (desk : Option ContentValue)
       (copying_change coming ones (worlds.time_at part now) after.next_page after.next_revision) same
       reply_told change_fits
       (change_leads (replies.Page part.next_page (path_text made.place.path) made.place.url))
-      (omega (arith, counts, rows_room)) (omega (arith, ones_count, shelf_room)) (omega arith))
+      (omega (arith, counts, rows_room)) (omega (arith, ones_count, shelf_room)) (omega arith)
+      (omega arith))

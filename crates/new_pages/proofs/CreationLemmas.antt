@@ -50,7 +50,6 @@ module _ (kept : TreePart) (part : worlds.TreePart) (desk : Option ContentValue)
       (page_reply part.next_page after.tree)
   quiet =
       let ends = create_quiet parent slug content in record {
-        built = refl;
         clear = create_own part desk now caller parent slug content ∙ clear;
         own = create_desk parent slug content;
         done = create_done part desk now caller parent slug content;

@@ -1,5 +1,5 @@
 -- What a command that looks at no desk leaves of the open desks: those are left that it does not end.
-use Rattle.std.proofs.Common.{◌≡◌, ℕ, true, false, not, List, [], filter, Option, None, Result, Ok, ap, ◌∙◌}
+use Rattle.std.proofs.Common.{◌≡◌, ℕ, false, not, List, [], filter, Option, None, Result, Ok, ap, ◌∙◌}
 use Rattle.site_types.specs.Content.{ContentValue}
 use Rattle.site_types.specs.declared.command.Command.{Command}
 use Rattle.site_types.specs.declared.refusal.Refusal.{Refusal}
@@ -11,7 +11,7 @@ use Rattle.site_model.specs.Front.{front_rules}
 use Rattle.site_model.specs.Laws.{FitsDesk}
 use Rattle.site_model.specs.Losing.{NoDesk, suspects_of, shuts}
 use Rattle.site_model.specs.Sound.{IsSoundPart}
-use Rattle.site_model.specs.Step.{is_built, rules, step_by}
+use Rattle.site_model.specs.Step.{rules, step_by}
 use Rattle.site_model.specs.Step as steps
 use Rattle.site_model.proofs.LosingEnds.{ends_none}
 use Rattle.grants.specs.Plans.{pages_of, pairs_left}
@@ -38,7 +38,7 @@ no_desk_fits part desk caller command own = rw own tt
 
 module _ (part : TreePart) (desk : Option ContentValue) (now caller : ℕ) (command : Command)
     (after : TreePart) (reply : Reply) (sound : IsSoundPart part)
-    (front : front_rules part caller command ≡ None) (built : is_built command ≡ true)
+    (front : front_rules part caller command ≡ None)
     (none : rules part desk now caller command ≡ None) (own : desk_page command ≡ None)
     (done : steps.effect part desk now caller command ≡ plain_deed after reply)
     (kept : after.desk_pairs ≡ part.desk_pairs) where
@@ -57,7 +57,7 @@ module _ (part : TreePart) (desk : Option ContentValue) (now caller : ℕ) (comm
   lost_step : step_by part desk now caller command
       ≡ Ok (left_open after (lost part.desk_pairs) part.desk_pairs, ending reply (lost part.desk_pairs))
   lost_step =
-      passed_step part desk now caller command front built none
+      passed_step part desk now caller command front none
       ∙ (ap (λ page. accepts (settled caller page (steps.effect part desk now caller command))) own
       ∙ (ap (λ (deed : Deed). accepts (settled caller None deed)) done
       ∙ (ap (λ pairs. accepts (given pairs)) kept

@@ -117,6 +117,7 @@ module _ (kept : TreePart) (part : worlds.TreePart) (desk : Option ContentValue)
     gone = tt;
     revisions = comes.fit;
     people = tt;
+    flows = tt;
   }
 
   -- it leads to those of the world after it
@@ -137,7 +138,7 @@ module _ (kept : TreePart) (part : worlds.TreePart) (desk : Option ContentValue)
       quiet_planned kept part desk now caller command after reply asked quiet room
       (Page part.next_page (path_text place.path) place.url) change same reply_told change_fits
       (change_leads (Page part.next_page (path_text place.path) place.url)) rows shelf
-      (omega arith)
+      (omega arith) (omega arith)
 
   -- so it is of the plan that is built
   pub newcomer_planned : (room : TreePart) (one : Newcomer) (revisions : List Revision)

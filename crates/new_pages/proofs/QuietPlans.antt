@@ -1,5 +1,5 @@
 -- Plans of commands that look at no desk and end none.
-use Rattle.std.proofs.Common.{◌≡◌, ◌≤◌, ℕ, true, false, [], length, Option, None, Ok, refl, arith}
+use Rattle.std.proofs.Common.{◌≡◌, ◌≤◌, ℕ, false, [], length, Option, None, Ok, refl, arith}
 use Rattle.site_ids.specs.Moment.{IsMoment}
 use Rattle.site_types.specs.Content.{ContentValue}
 use Rattle.site_types.specs.declared.command.Command.{Command}
@@ -9,13 +9,13 @@ use Rattle.site_model.specs.Create.{plain_deed}
 use Rattle.site_model.specs.Desks.{desk_page}
 use Rattle.site_model.specs.Losing.{NoDesk, suspects_of, shuts}
 use Rattle.site_model.specs.Reached.{IsReachedPart}
-use Rattle.site_model.specs.Step.{is_built, rules, step_by}
+use Rattle.site_model.specs.Step.{rules, step_by}
 use Rattle.site_model.specs.Step as steps
 use Rattle.site_model.proofs.ReachedSound.{step_by_keeps_reached}
 use Rattle.flat_model.specs.Fits.{Fits}
 use Rattle.flat_model.specs.Flat.{lists_of}
 use Rattle.flat_model.specs.declared.change.Change.{Change}
-use Rattle.grants.specs.Plans.{HasPlan, quiet_plan, left_by, rows_needed, people_needed}
+use Rattle.grants.specs.Plans.{HasPlan, quiet_plan, left_by, rows_needed, people_needed, flows_needed}
 use Rattle.grants.specs.Standing.{IsSame}
 use Rattle.grants.specs.declared.part.TreePart.{TreePart}
 use Rattle.grants.proofs.StandingLemmas.{same_ready}
@@ -25,7 +25,6 @@ use Rattle.new_pages.proofs.EndingSteps.{ending, left_open, no_desk_fits, quiet_
 -- A command that none of its own rules refuses, with what it does: it looks at no desk and ends none.
 pub record IsQuiet (part : worlds.TreePart) (desk : Option ContentValue) (now caller : ℕ)
     (command : Command) (after : worlds.TreePart) (reply : Reply) : Type 0 where
-  pub built : is_built command ≡ true
   pub clear : rules part desk now caller command ≡ None
   pub own : desk_page command ≡ None
   pub done : steps.effect part desk now caller command ≡ plain_deed after reply
@@ -45,7 +44,7 @@ module _ (kept : TreePart) (part : worlds.TreePart) (desk : Option ContentValue)
   pub step_is : step_by part desk now caller command ≡ Ok (left, ending reply [])
   step_is =
       quiet_step part desk now caller command after reply asked.ready.reached.sound asked.front
-      quiet.built quiet.clear quiet.own quiet.done quiet.desks quiet.suspects quiet.shut
+      quiet.clear quiet.own quiet.done quiet.desks quiet.suspects quiet.shut
 
   -- to a world that is reached
   pub reached_after : IsMoment now → IsReachedPart left
@@ -59,8 +58,9 @@ module _ (kept : TreePart) (part : worlds.TreePart) (desk : Option ContentValue)
       left_by (quiet_plan told change) (lists_of part) ≡ lists_of left →
       rows_needed change.tree ≤ room.rows.spare → length change.revisions ≤ room.shelf.spare →
       people_needed change.people ≤ room.grants.spare →
+      flows_needed change.flows ≤ room.flows.spare →
       HasPlan room part desk now caller command (quiet_plan told change)
-  quiet_planned room told change same told_is fits leads rows revisions people = record {
+  quiet_planned room told change same told_is fits leads rows revisions people flows = record {
     after = left;
     effect = ending reply [];
     can = record {
@@ -74,6 +74,12 @@ module _ (kept : TreePart) (part : worlds.TreePart) (desk : Option ContentValue)
         fits = record { change = fits; opened = tt };
         leads = leads;
       };
-      room = record { rows = rows; revisions = revisions; people = people; desks = omega arith };
+      room = record {
+        rows = rows;
+        revisions = revisions;
+        people = people;
+        flows = flows;
+        desks = omega arith;
+      };
     };
   }

@@ -1,18 +1,14 @@
 -- What a page shows, and what its copy gets, is there.
-use Rattle.std.proofs.Common.{◌≡◌, ◌&&◌, ◌||◌, ℕ, Bool, true, false, cond, nat_eq, List, [], ◌∷◌, Option, Some, None, refl, sym, ap, subst, ◌∙◌}
-use Rattle.std.specs.List.{list_any}
+use Rattle.std.proofs.Common.{◌≡◌, ℕ, true, Option, Some, None, refl, sym, subst, ◌∙◌}
 use Rattle.std.specs.Option.{option_map, IfSome}
-use Rattle.page_tree.specs.Tree.{Forest, has_page}
+use Rattle.page_tree.specs.Tree.{has_page}
 use Rattle.site_types.specs.declared.body.Body.{Body}
 use Rattle.site_types.specs.declared.revision.Revision.{Revision}
-use Rattle.tree_model.specs.Shape.{AllPages}
-use Rattle.tree_model.proofs.CountLemmas.{has_counts, node_found}
-use Rattle.tree_model.proofs.PageLemmas.{AllPages-node_of}
 use Rattle.site_model.specs.World.{TreePart}
 use Rattle.site_model.specs.Aliases.{content_with, shown_by}
 use Rattle.site_model.specs.Bodies.{revision_with}
 use Rattle.site_model.specs.Sound.{IsBody, AreBodies, HasOwn, IsRegular, is_own}
-use Rattle.site_model.specs.Views.{first_body, body_of}
+use Rattle.site_model.specs.Views.{body_of}
 use Rattle.flat_model.proofs.KeptPages.{kept_there, own_found, page_has}
 use Rattle.page_copies.specs.Contents.{copied_by}
 

@@ -1,5 +1,5 @@
 -- A new page put into what the store keeps.
-use Rattle.std.proofs.Common.{◌≡◌, ℕ, Bool, true, false, cond, nat_eq, List, [], ◌∷◌, Option, Some, None, map, find, insert, refl, ap, sym, ◌∙◌, arith, add-one}
+use Rattle.std.proofs.Common.{◌≡◌, ℕ, Bool, true, false, cond, nat_eq, List, [], ◌∷◌, Option, Some, None, map, find, insert, refl, ap, sym, subst, ◌∙◌, arith, add-one}
 use Rattle.std.proofs.lemmas.Bool.Decides.{nat_tests}
 use Rattle.std.specs.List.{AllByRecursion}
 use Rattle.std.specs.Option.{option_map, IfSome}
@@ -7,7 +7,7 @@ use Rattle.std.specs.Map.{lookup}
 use Rattle.page_tree.specs.Rows.{comes_before, insert_in_order, raise_count, with_kid, with_row, is_parent, row_with}
 use Rattle.step_path.specs.Path.{steps_of}
 use Rattle.site_types.specs.Ids.{IsPageId}
-use Rattle.page_store.specs.PageRows.{parent_id, IsNewRow}
+use Rattle.page_store.specs.PageRows.{seen_row, parent_id, IsNewRow}
 use Rattle.page_store.specs.declared.stored.StoredRow.{StoredRow}
 use Rattle.page_store.specs.declared.kid_index.KidIndex.{KidIndex}
 use Rattle.page_store.specs.Pages.{Page}
@@ -182,9 +182,12 @@ pub insert_kept : (stored mid later : List (ℕ
     → ((id : ℕ) → lookup (nat_eq id) later ≡ cond (nat_eq new.row.id id) (Some new) (lookup (nat_eq id) mid))
     → IsIndex more_kids (with_key new.row.id (kid_key p new.row.slug) (keys_of stored))
     → IsKept later (insert order (leading (λ row. comes_before row.path (steps_of new.row.path))
-    pages) new.row.id) more_kids (with_row (seen new) pages)
+    pages) new.row.id) more_kids (with_row (seen_row new.row (Some p) new.url) pages)
 insert_kept stored mid later order kids more_kids pages new p kept is found parent fits fresh raises
-    stores indexes = by (lookup (nat_eq p) stored) refl
+    stores indexes =
+    subst (λ (above : Option ℕ). IsKept later (insert order (leading (λ row. comes_before row.path
+    (steps_of new.row.path)) pages) new.row.id) more_kids (with_row (seen_row new.row above new.url)
+    pages)) parent (by (lookup (nat_eq p) stored) refl)
   where
     can : CanBeAdded pages (seen new) p
     can = record {

@@ -1,4 +1,5 @@
 pub mod PathOrder
+pub mod StoredLemmas
 pub mod Leading
 pub mod AllLemmas
 pub mod InsertLemmas

@@ -1,3 +1,4 @@
+pub mod Stored
 pub mod PageRows
 pub mod Pages
 pub mod KidIndex

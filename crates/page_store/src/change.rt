@@ -83,7 +83,7 @@ pub(crate) fn find_key(stored: &IndexMap<PageId, StoredRow>, id: PageId) -> Opti
     ensures { result ≡ own_key (lookup (nat_eq id) stored.now.entries) }
 {
     let page = stored.get(&id)?;
-    let parent = page.parent?;
+    let parent = page.parent.get()?;
     Some(key_of_kid(parent, &page.row.slug))
 }
 

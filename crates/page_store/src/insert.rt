@@ -13,7 +13,7 @@ ghost use Rattle.page_store.specs.Search.{leading};
 use crate::Rows;
 use crate::kid_index::key_of_kid;
 use crate::search::{Front, count_front};
-use crate::stored::StoredRow;
+use crate::stored::{Parent, StoredRow};
 use arrayvec::ArrayVec;
 use indexmap::IndexMap;
 use site_types::{NoMemory, PageId, PageRow, Url};
@@ -55,7 +55,7 @@ impl Rows {
         let stored = StoredRow {
             row,
             url,
-            parent: Some(parent),
+            parent: Parent::page(parent),
             counted: false,
         };
         add_kid(&mut self.stored, parent);

@@ -160,7 +160,7 @@ fn is_kid(stored: &IndexMap<PageId, StoredRow>, parent: PageId, slug: &Slug, id:
     let Some(page) = stored.get(&id) else {
         return false;
     };
-    match page.parent {
+    match page.parent.get() {
         Some(above) => above == parent && page.row.slug == *slug,
         None => false,
     }

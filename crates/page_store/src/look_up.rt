@@ -46,7 +46,7 @@ impl Rows {
     {
         let below = self.stored.get(&id);
         match below {
-            Some(stored) => stored.parent,
+            Some(stored) => stored.parent.get(),
             None => None,
         }
     }

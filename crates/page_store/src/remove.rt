@@ -72,7 +72,7 @@ fn take_key(kids: &mut KidIndex, id: PageId, page: &StoredRow)
         → IsIndex kids.new (without_key id keys) }
     ensures room { index_room kids.old ≤ index_room kids.new }
 {
-    if let Some(parent) = page.parent {
+    if let Some(parent) = page.parent.get() {
         kids.take(key_of_kid(parent, &page.row.slug), id);
     }
 }
@@ -86,7 +86,7 @@ fn parent_in(stored: &IndexMap<PageId, StoredRow>, id: PageId) -> PageId
     let Some(page) = stored.get(&id) else {
         unreachable!();
     };
-    match page.parent {
+    match page.parent.get() {
         Some(parent) => parent,
         None => unreachable!(),
     }

@@ -6,7 +6,7 @@ ghost use Rattle.page_store.specs.Kept.{IsRootPage};
 
 use crate::Rows;
 use crate::kid_index::KidIndex;
-use crate::stored::StoredRow;
+use crate::stored::{Parent, StoredRow};
 use indexmap::IndexMap;
 use site_types::{Body, NoMemory, PageId, PageRow, PathText, Slug, Url, UserId};
 use std::alloc::Global;
@@ -48,7 +48,7 @@ fn root_page(alloc: Global) -> Result<StoredRow, NoMemory>
             body: body_of_root(),
         },
         url: Url::from_vec(url),
-        parent: None,
+        parent: Parent::none(),
         counted: false,
     })
 }

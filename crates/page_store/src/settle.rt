@@ -14,7 +14,7 @@ use crate::insert::{above_text, add_kid};
 use crate::kid_index::{KidIndex, KidKey};
 use crate::remove::take_kid;
 use crate::search::{Front, count_front};
-use crate::stored::StoredRow;
+use crate::stored::{Parent, StoredRow};
 use indexmap::IndexMap;
 use site_types::PageId;
 
@@ -92,6 +92,6 @@ fn put_parent(stored: &mut IndexMap<PageId, StoredRow>, id: PageId, parent: Page
     ensures spare { spare stored.new ≡ spare stored.old }
 {
     if let Some(page) = stored.get_mut(&id) {
-        page.parent = Some(parent);
+        page.parent = Parent::page(parent);
     }
 }

@@ -10,7 +10,7 @@ use Rattle.site_ids.specs.Moment.{IsMoment}
 use Rattle.site_model.specs.World.{World}
 use Rattle.site_model.specs.Laws.{FitsCommand}
 use Rattle.site_model.specs.Reached.{IsReached}
-use Rattle.site_model.specs.Step.{is_built, step, step_at}
+use Rattle.site_model.specs.Step.{step, step_at}
 use Rattle.site_model.proofs.ReachedSound.{step_keeps_reached}
 use Rattle.grants.proofs.StandingLemmas as parts_stand
 use Rattle.grants.specs.declared.fault.Fault.{Fault}
@@ -19,7 +19,7 @@ use Rattle.site_core.specs.Standing as cores
 use Rattle.site_core.specs.Texts.{AreDesks}
 use Rattle.site_core.specs.declared.state.Core.{Core}
 use Rattle.wire_model.specs.declared.answer.Answer.{Answer}
-use Rattle.wire_model.specs.declared.answer.Answer.TheVariants.{Accepted, Refused, NotBuilt}
+use Rattle.wire_model.specs.declared.answer.Answer.TheVariants.{Accepted, Refused}
 use Rattle.wire_model.specs.Exchange.{Outcome, telling, entry_of, run}
 use Rattle.pagetree_session.specs.declared.memory_site.MemorySite.{MemorySite}
 use Rattle.pagetree_session.specs.Standing.{StandsFor, IsReady, tally_with, Answers, fault_answered}
@@ -51,56 +51,48 @@ answers_telling site tally outcome answer is stands reached =
       number = omega arith;
     })
 
--- a command that is not built is told so
-pub answers_not_built : (site : MemorySite) (tally : Tally World) (user moment : ℕ) (command : Command) →
-    is_built command ≡ false → IsReady site tally →
-    Answers tally (run tally user moment command) NotBuilt site
-answers_not_built site tally user moment command is ready =
-    answers_telling site tally _ NotBuilt (rw is refl) ready.stands ready.reached
-
 module _ (tally : Tally World) (user moment : ℕ) (command : Command) where
   -- the entry of the command, which has the next number
   abbrev its_entry : Entry
   its_entry = entry_of user moment command (tally.number + 1)
 
-  -- a command that is built and refused by the step is told so
-  run_refused : (refusal : Refusal) → is_built command ≡ true →
-      step_at tally.world moment user command ≡ Err refusal →
+  -- a command that is refused by the step is told so
+  run_refused : (refusal : Refusal) → step_at tally.world moment user command ≡ Err refusal →
       run tally user moment command ≡ telling (Refused refusal)
-  run_refused refusal built is = rw (built, is) refl
+  run_refused refusal is = rw is refl
 
   -- the answer to it
-  pub answers_refused : (site : MemorySite) (refusal : Refusal) → is_built command ≡ true →
+  pub answers_refused : (site : MemorySite) (refusal : Refusal) →
       IsReached tally.world → step_at tally.world moment user command ≡ Err refusal →
       StandsFor site tally →
       Answers tally (run tally user moment command) (Refused refusal) site
-  answers_refused site refusal built reached is stands =
-      answers_telling site tally _ (Refused refusal) (run_refused refusal built is) stands reached
+  answers_refused site refusal reached is stands =
+      answers_telling site tally _ (Refused refusal) (run_refused refusal is) stands reached
 
   -- what is told of a fault of it
   pub answers_fault_told : (before : MemorySite) (core : Core) (fault : Fault) →
-      is_built command ≡ true → IsReady before tally →
+      IsReady before tally →
       cores.Prepares tally.world moment user command core (Err fault) →
       cores.IsSame before.core core →
       IfOk (fault_answered fault)
       (λ answer. Answers tally (run tally user moment command) answer
       (record { core = core; number = before.number }))
-  answers_fault_told before core (faults.Refused refusal) built ready is same =
-      answers_refused (record { core = core; number = before.number }) refusal built ready.reached is
+  answers_fault_told before core (faults.Refused refusal) ready is same =
+      answers_refused (record { core = core; number = before.number }) refusal ready.reached is
       (record {
         core = same_stands before.core core tally.world same ready.stands.core;
         number = ready.stands.number;
       })
-  answers_fault_told before core faults.Memory built ready is same = tt
+  answers_fault_told before core faults.Memory ready is same = tt
 
-  module _ (after : World) (reply : Reply) (built : is_built command ≡ true)
+  module _ (after : World) (reply : Reply)
       (is : step_at tally.world moment user command ≡ Ok (after, reply)) where
-    -- a command that is built and accepted by the step is entered
+    -- a command that is accepted by the step is entered
     run_accepted : run tally user moment command ≡ record {
       answer = Accepted (tally.number + 1) reply;
       added = accepted its_entry reply ∷ [];
     }
-    run_accepted = rw (built, is) refl
+    run_accepted = rw is refl
 
     -- the tally after it
     abbrev tally_after : Tally World

@@ -10,7 +10,6 @@ ghost use Rattle.site_model.specs.World.{World};
 ghost use Rattle.sight_model.specs.Cards.{card_of, answer_of};
 ghost use Rattle.sight_model.specs.References.{refs_shown};
 ghost use Rattle.pagetree_session.specs.declared.session.TheConstants.{ANSWER_LIMIT};
-ghost use Rattle.site_model.specs.Step as steps;
 ghost use Rattle.wire_model.specs.Exchange.{run};
 ghost use Rattle.pagetree_session.specs.Beginning.{new_tally};
 ghost use Rattle.pagetree_session.specs.Standing.{StandsFor, IsReady, Answers, fault_answered};
@@ -59,9 +58,6 @@ impl MemorySite {
         ensures err { (tally : Tally World) → StandsFor self.old tally
             → OnErr result (StandsFor self.new tally) }
     {
-        if !is_built(&command) {
-            return Ok(Answer::NotBuilt);
-        }
         match self.core.prepare(alloc, &command, user, now) {
             Ok(plan) => {
                 // The step keeps what is reached at a moment in range, which this says.
@@ -130,35 +126,4 @@ fn refused(fault: Fault) -> Result<Answer, NoMemory>
         Fault::Refused(refusal) => Ok(Answer::Refused(refusal)),
         Fault::Memory => Err(NoMemory),
     }
-}
-
-/// Whether the command is built.
-fn is_built(command: &Command) -> bool
-    ensures { result ≡ steps.is_built command.now }
-{
-    matches!(
-        command,
-        Command::Create { .. }
-            | Command::Move { .. }
-            | Command::Delete { .. }
-            | Command::SetSlug { .. }
-            | Command::Alias { .. }
-            | Command::Detach { .. }
-            | Command::Copy { .. }
-            | Command::OpenDesk { .. }
-            | Command::SaveDesk { .. }
-            | Command::ShutDesk { .. }
-            | Command::File { .. }
-            | Command::Publish { .. }
-            | Command::Unpublish { .. }
-            | Command::Unschedule { .. }
-            | Command::Lock { .. }
-            | Command::Unlock { .. }
-            | Command::Purge { .. }
-            | Command::DefineUser { .. }
-            | Command::DefineGroup
-            | Command::Member { .. }
-            | Command::Grant { .. }
-            | Command::Tick
-    )
 }

@@ -5,7 +5,6 @@ use Rattle.std.specs.Option.{IfSome, option_map, option_and_then}
 use Rattle.page_tree.specs.Rows.{rows_of, row_with}
 use Rattle.site_types.specs.declared.body.Body.{Body}
 use Rattle.site_types.specs.declared.revision.Revision.{Revision}
-use Rattle.site_model.specs.World as worlds
 use Rattle.page_store.specs.Changes.{with_body}
 use Rattle.page_store.specs.Pages.{Page}
 use Rattle.time_table.specs.Table.{moment_in, with_option}

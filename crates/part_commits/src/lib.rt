@@ -4,6 +4,7 @@
 mod bodies;
 mod committing;
 mod done;
+mod flow_change;
 mod going;
 pub mod laws;
 mod leaving;

@@ -2,11 +2,12 @@
 ghost use Rattle.std.specs.Prelude.{◌≡◌, ◌≤◌, length};
 ghost use Rattle.flat_model.specs.Fits.{Fits};
 ghost use Rattle.flat_model.specs.Made.{made};
-ghost use Rattle.grants.specs.Plans.{rows_needed, people_needed};
+ghost use Rattle.grants.specs.Plans.{rows_needed, people_needed, flows_needed};
 ghost use Rattle.grants.specs.Standing.{seen, InStep};
 ghost use Rattle.part_commits.specs.InStep.{CanStayInStep};
 
 use crate::bodies::put_bodies;
+use crate::flow_change::put_flows;
 use crate::going::{drop_grants, put_purge};
 use crate::people_change::put_people;
 use crate::revisions::put_revisions;
@@ -23,6 +24,7 @@ pub(crate) fn make(part: &mut TreePart, change: Change)
     requires rows { rows_needed change.tree ≤ part.old.rows.spare }
     requires revisions { length change.revisions ≤ part.old.shelf.spare }
     requires people { people_needed change.people ≤ part.old.grants.spare }
+    requires flows { flows_needed change.flows ≤ part.old.flows.spare }
     requires in_step { InStep part.old }
     requires stays { CanStayInStep part.old (seen part.old) change }
     ensures made { seen part.new ≡ made change (seen part.old) }
@@ -37,6 +39,7 @@ pub(crate) fn make(part: &mut TreePart, change: Change)
         purge,
         revisions,
         people,
+        flows,
         time,
         next_page,
         next_revision,
@@ -54,6 +57,7 @@ pub(crate) fn make(part: &mut TreePart, change: Change)
         bodies,
     );
     put_people(&mut part.grants, people);
+    put_flows(&mut part.flows, flows);
     part.time = time;
     part.next_page = next_page;
     part.next_revision = next_revision;

@@ -1,40 +1,13 @@
 -- The groups that commands are prepared in.
-use Rattle.std.proofs.Common.{◌≡◌, ℕ, true, false, None, refl}
+use Rattle.std.proofs.Common.{◌≡◌, ℕ, true, None, refl}
 use Rattle.site_types.specs.Content.{ContentValue}
 use Rattle.site_types.specs.declared.command.Command.{Command}
 use Rattle.site_types.specs.declared.command.Command.TheVariants as commands
-use Rattle.site_model.specs.Step.{is_built, saving}
+use Rattle.site_model.specs.Step.{saving}
 use Rattle.site_core.specs.Groups.{group_of}
 use Rattle.site_core.specs.declared.group.Group.TheVariants as groups
 use Rattle.flow_edits.specs.Asked.{is_flow}
 use Rattle.tree_edits.specs.OnTree.{is_on_tree}
-
--- a command that is prepared with those that are not built is not built
-pub later_unbuilt : (command : Command) → group_of command ≡ groups.Later →
-    is_built command ≡ false
-later_unbuilt (commands.Create parent slug content) is = absurd (cc)
-later_unbuilt (commands.Move page target position) is = absurd (cc)
-later_unbuilt (commands.Delete page) is = absurd (cc)
-later_unbuilt (commands.SetSlug page slug) is = absurd (cc)
-later_unbuilt (commands.Alias source parent slug) is = absurd (cc)
-later_unbuilt (commands.Detach page) is = absurd (cc)
-later_unbuilt (commands.Copy page parent slug deep) is = absurd (cc)
-later_unbuilt (commands.SaveDesk page content) is = absurd (cc)
-later_unbuilt (commands.OpenDesk page) is = absurd (cc)
-later_unbuilt (commands.ShutDesk page) is = absurd (cc)
-later_unbuilt (commands.File page go_live expire) is = absurd (cc)
-later_unbuilt (commands.Publish page) is = absurd (cc)
-later_unbuilt (commands.Unpublish page) is = absurd (cc)
-later_unbuilt (commands.Unschedule page) is = absurd (cc)
-later_unbuilt (commands.Lock page) is = absurd (cc)
-later_unbuilt (commands.Unlock page) is = absurd (cc)
-later_unbuilt (commands.Purge page) is = absurd (cc)
-later_unbuilt (commands.DefineUser superuser digest) is = absurd (cc)
-later_unbuilt commands.DefineGroup is = absurd (cc)
-later_unbuilt (commands.Member user group on) is = absurd (cc)
-later_unbuilt (commands.Grant group page permission on) is = absurd (cc)
-later_unbuilt commands.Tick is = absurd (cc)
-later_unbuilt _ is = refl
 
 -- a command that is prepared with those on the tree is one of them
 pub tree_grouped : (command : Command) → group_of command ≡ groups.Tree →
@@ -48,7 +21,7 @@ tree_grouped (commands.Detach page) is = refl
 tree_grouped (commands.Copy page parent slug deep) is = refl
 tree_grouped _ is = absurd (cc)
 
--- a command that is prepared with those on drafts, publishing and people is one of them
+-- a command that is prepared with those on drafts, publishing, moderation and people is one of them
 pub flow_grouped : (command : Command) → group_of command ≡ groups.Flow →
     is_flow command ≡ true
 flow_grouped (commands.OpenDesk page) is = refl
@@ -60,6 +33,13 @@ flow_grouped (commands.Unschedule page) is = refl
 flow_grouped (commands.Lock page) is = refl
 flow_grouped (commands.Unlock page) is = refl
 flow_grouped (commands.Purge page) is = refl
+flow_grouped (commands.DefineTask groups) is = refl
+flow_grouped (commands.DefineWorkflow tasks) is = refl
+flow_grouped (commands.Assign page workflow) is = refl
+flow_grouped (commands.Submit page) is = refl
+flow_grouped (commands.Approve page) is = refl
+flow_grouped (commands.Reject page) is = refl
+flow_grouped (commands.Cancel page) is = refl
 flow_grouped (commands.DefineUser superuser digest) is = refl
 flow_grouped commands.DefineGroup is = refl
 flow_grouped (commands.Member user group on) is = refl

@@ -1,6 +1,6 @@
 -- Sixteen parts of the open desks: what a change of one of them makes of the lists that they are seen
 -- as, and that each desk still stands in the part of its page's stripe.
-use Rattle.std.proofs.Common.{◌≡◌, ◌<◌, ◌%◌, ℕ, zero, suc, Bool, true, false, cond, not, nat_eq, nat_lt, ◌&&◌, List, [], ◌∷◌, length, map, filter, get_or, set, refl, sym, ap, subst, ◌∙◌, arith}
+use Rattle.std.proofs.Common.{◌≡◌, ◌<◌, ℕ, zero, suc, Bool, true, false, cond, not, nat_eq, nat_lt, List, [], ◌∷◌, length, map, get_or, set, refl, sym, ap, subst, ◌∙◌, arith}
 use Rattle.std.specs.List.{AllByRecursion}
 use Rattle.std.proofs.lemmas.List.{map-set, get_or-set_same, get_or-set_other}
 use Rattle.std.proofs.lemmas.List as lists
@@ -8,7 +8,7 @@ use Rattle.std.proofs.lemmas.Bool.Decides.{nat_tests}
 use Rattle.site_types.specs.Content.{ContentValue}
 use Rattle.site_types.specs.declared.world_rows.DeskRow.{DeskRow}
 use Rattle.site_model.specs.Parts.{stripe_of}
-use Rattle.desks.specs.Desks.{desk_of, rewritten, is_own, with_desk, with_text, without}
+use Rattle.desks.specs.Desks.{is_own, with_desk, with_text, without}
 use Rattle.site_core.specs.Texts.{list_of, room_for, InStripes}
 
 -- each desk of a list is in this stripe

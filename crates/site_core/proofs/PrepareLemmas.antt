@@ -1,5 +1,5 @@
 -- What a plan of the tree part is for the whole site, and what a plan of a text that is saved is.
-use Rattle.std.proofs.Common.{◌≡◌, ◌≤◌, ◌<◌, ℕ, Bool, true, false, cond, nat_eq, ◌&&◌, ◌||◌, List, [], ◌∷◌, map, filter, find, Option, Some, None, is_some, Result, Ok, Err, refl, sym, ap, subst, ◌∙◌, arith}
+use Rattle.std.proofs.Common.{◌≡◌, ℕ, Bool, true, false, cond, nat_eq, ◌&&◌, ◌||◌, List, [], ◌∷◌, map, filter, find, Option, Some, None, is_some, Result, Ok, Err, refl, sym, ap, subst, ◌∙◌, arith}
 use Rattle.std.specs.Prelude.{IfSome}
 use Rattle.std.specs.List.{AllByRecursion, list_any}
 use Rattle.std.specs.Result.{IfOk}
@@ -19,7 +19,6 @@ use Rattle.tree_model.proofs.PageLemmas.{all_weaker}
 use Rattle.site_model.proofs.OrderLemmas.{all_filter}
 use Rattle.desks.specs.Desks.{rewritten}
 use Rattle.desks.specs.Laws as kept_laws
-use Rattle.site_model.specs.World as worlds
 use Rattle.site_model.specs.World.{World, DeskPair, Desk, pair_of}
 use Rattle.site_model.specs.Desks.{desk_key, desk_page, own_text, text_at, desks_after}
 use Rattle.site_model.specs.Laws.{FitsDesk}
@@ -47,8 +46,6 @@ use Rattle.part_commits.specs.declared.done.Done.{Done as DoneTold}
 use Rattle.site_core.specs.declared.state.Core.{Core}
 use Rattle.site_core.proofs.LinkRoom.{quiet_links}
 use Rattle.site_core.proofs.StepDesks.{TellsDesks, none_on, apart_in, left_is, saved_is}
-use Rattle.flat_model.specs.Lists.{PartLists}
-use Rattle.grants.specs.declared.part.TreePart.{TreePart}
 
 -- what holds of each page's id holds of the id of a page that is there
 given_of : (G : ℕ → Type 0) (j : ℕ) (f : Forest Body) → AllPages (λ id slug body. G id) f →
@@ -137,7 +134,7 @@ module _ (core : Core) (world : World) (ready : IsReady core world) where
   pub part_ready : parts_stand.IsReady core.tree world.part
   part_ready = record {
     stands = ready.stands.tree;
-    reached = record { sound = ready.reached.sound.part; none_yet = ready.reached.none_yet };
+    reached = record { sound = ready.reached.sound.part };
   }
 
   -- the pages of the open desks rise
@@ -337,7 +334,14 @@ module _ (core : Core) (world : World) (ready : IsReady core world) where
       ready = ready;
       reply_is = refl;
       fits = record {
-        change = record { tree = tt; bodies = tt; gone = tt; revisions = tt; people = tt };
+        change = record {
+          tree = tt;
+          bodies = tt;
+          gone = tt;
+          revisions = tt;
+          people = tt;
+          flows = tt;
+        };
         opened = tt;
       };
       pages = tt;
@@ -345,6 +349,7 @@ module _ (core : Core) (world : World) (ready : IsReady core world) where
         rows = omega arith;
         revisions = omega arith;
         people = omega arith;
+        flows = omega arith;
         desks = omega arith;
       };
       in_step = record {

@@ -39,6 +39,10 @@ alike_same before after alike = record {
     members = ap (λ (kept : TreePart). kept.grants.members) alike.is;
     grants = ap (λ (kept : TreePart). kept.grants.grants) alike.is;
   };
+  flows = record {
+    tasks = ap (λ (kept : TreePart). kept.flows.tasks) alike.is;
+    workflows = ap (λ (kept : TreePart). kept.flows.workflows) alike.is;
+  };
   desks = ap (λ (kept : TreePart). kept.desk_pairs.pairs) alike.is;
   time = ap (λ (kept : TreePart). kept.time) alike.is;
   next_page = ap (λ (kept : TreePart). kept.next_page) alike.is;
@@ -106,6 +110,7 @@ module _ (part : worlds.TreePart) (desk : Option ContentValue) (now caller : ℕ
         rows = taken.rows;
         revisions = taken.revisions;
         people = taken.people;
+        flows = taken.flows;
         desks = taken.desks;
       } in
       record {

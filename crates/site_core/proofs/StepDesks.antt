@@ -1,6 +1,6 @@
 -- The desks of a world after a step, page by page: the one that is opened comes, and those on the pages
 -- of the desks that end go.
-use Rattle.std.proofs.Common.{◌≡◌, ℕ, Bool, true, false, cond, not, nat_eq, nat_lt, ◌&&◌, ◌||◌, List, [], ◌∷◌, map, filter, find, Option, Some, None, refl, sym, ap, subst, ◌∙◌, arith}
+use Rattle.std.proofs.Common.{◌≡◌, ℕ, Bool, true, false, cond, not, nat_eq, ◌&&◌, ◌||◌, List, [], ◌∷◌, map, filter, Option, Some, None, refl, sym, ap, subst, ◌∙◌, arith}
 use Rattle.std.specs.Prelude.{IfSome}
 use Rattle.std.specs.List.{AllByRecursion, list_any}
 use Rattle.std.specs.Option.{option_map}
@@ -14,7 +14,7 @@ use Rattle.site_model.specs.Desks.{desk_key, is_same_desk, is_ended, with_desk, 
 use Rattle.site_model.specs.Step.{saved}
 use Rattle.site_model.specs.Sound.{KeysRise}
 use Rattle.desks.specs.Desks.{rewritten}
-use Rattle.site_core.specs.Texts.{row_of, desk_on, opened_on, saved_on, desk_left}
+use Rattle.site_core.specs.Texts.{row_of, desk_on, opened_on, desk_left}
 use Rattle.page_tree.proofs.ListLemmas.{all_weaker}
 
 -- whether one of these pages is this one

@@ -4,8 +4,8 @@ use Rattle.site_types.specs.declared.command.Command.TheVariants as commands
 use Rattle.site_core.specs.declared.group.Group.{Group}
 use Rattle.site_core.specs.declared.group.Group.TheVariants as kinds
 
--- the group of a command: those on the tree; those on drafts, publishing and people; the one that saves
--- a desk; and those that are not built
+-- the group of a command: those on the tree; those on drafts, publishing, moderation and people; and the
+-- one that saves a desk
 abbrev pub group_of : Command → Group
 group_of (commands.Create parent slug content) = kinds.Tree
 group_of (commands.Move page target position) = kinds.Tree
@@ -24,13 +24,13 @@ group_of (commands.Unschedule page) = kinds.Flow
 group_of (commands.Lock page) = kinds.Flow
 group_of (commands.Unlock page) = kinds.Flow
 group_of (commands.Purge page) = kinds.Flow
-group_of (commands.DefineTask groups) = kinds.Later
-group_of (commands.DefineWorkflow tasks) = kinds.Later
-group_of (commands.Assign page workflow) = kinds.Later
-group_of (commands.Submit page) = kinds.Later
-group_of (commands.Approve page) = kinds.Later
-group_of (commands.Reject page) = kinds.Later
-group_of (commands.Cancel page) = kinds.Later
+group_of (commands.DefineTask groups) = kinds.Flow
+group_of (commands.DefineWorkflow tasks) = kinds.Flow
+group_of (commands.Assign page workflow) = kinds.Flow
+group_of (commands.Submit page) = kinds.Flow
+group_of (commands.Approve page) = kinds.Flow
+group_of (commands.Reject page) = kinds.Flow
+group_of (commands.Cancel page) = kinds.Flow
 group_of (commands.DefineUser superuser digest) = kinds.Flow
 group_of commands.DefineGroup = kinds.Flow
 group_of (commands.Member user group on) = kinds.Flow

@@ -9,12 +9,10 @@ use site_types::Command;
 pub(crate) enum Group {
     /// Those on the tree.
     Tree,
-    /// Those on drafts, publishing, locks and revisions, and on users, groups and rights.
+    /// Those on drafts, publishing, locks, revisions and moderation, and on users, groups and rights.
     Flow,
     /// The one that saves a desk.
     Save,
-    /// Those that are not built.
-    Later,
 }
 
 /// The group of a command.
@@ -38,18 +36,18 @@ pub(crate) fn group_of(command: &Command) -> Group
         | Command::Lock { .. }
         | Command::Unlock { .. }
         | Command::Purge { .. }
+        | Command::DefineTask { .. }
+        | Command::DefineWorkflow { .. }
+        | Command::Assign { .. }
+        | Command::Submit { .. }
+        | Command::Approve { .. }
+        | Command::Reject { .. }
+        | Command::Cancel { .. }
         | Command::DefineUser { .. }
         | Command::DefineGroup
         | Command::Member { .. }
         | Command::Grant { .. }
         | Command::Tick => Group::Flow,
         Command::SaveDesk { .. } => Group::Save,
-        Command::DefineTask { .. }
-        | Command::DefineWorkflow { .. }
-        | Command::Assign { .. }
-        | Command::Submit { .. }
-        | Command::Approve { .. }
-        | Command::Reject { .. }
-        | Command::Cancel { .. } => Group::Later,
     }
 }

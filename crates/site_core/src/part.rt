@@ -1,7 +1,6 @@
 //! Commands on the tree part: what will be done is found out before anything changes.
-ghost use Rattle.std.specs.Prelude.{◌≡◌, ℕ, Option, Err, None, IfOk};
+ghost use Rattle.std.specs.Prelude.{◌≡◌, None, IfOk};
 ghost use Rattle.std.specs.Option.{option_copied};
-ghost use Rattle.site_types.specs.Content.{ContentValue};
 ghost use Rattle.site_model.specs.World as worlds;
 ghost use Rattle.site_model.specs.Desks.{desk_page};
 ghost use Rattle.site_model.specs.Laws.{FitsCommand, FitsDesk};
@@ -11,15 +10,13 @@ ghost use Rattle.grants.specs.Standing.{IsReady, IsSame};
 ghost use Rattle.grants.specs.Plans.{Prepares};
 ghost use Rattle.part_commits.specs.InStep.{CanStayInStep};
 ghost use Rattle.part_commits.specs.Links.{CanPutLinks};
-ghost use Rattle.site_core.specs.Groups.{group_of};
-ghost use Rattle.site_core.specs.declared.group.Group.TheVariants as groups;
 
 use crate::group::{Group, group_of};
 use crate::linking::find_links;
 use flow_edits::prepare_flow;
-use grants::{Fault, Plan, TreePart, front};
+use grants::{Fault, Plan, TreePart};
 use part_commits::make_room;
-use site_types::{Command, Content, Moment, Refusal, UserId};
+use site_types::{Command, Content, Moment, UserId};
 use std::alloc::Global;
 use tree_edits::prepare_tree;
 
@@ -28,8 +25,7 @@ use tree_edits::prepare_tree;
 /// memory. It changes nothing but spare room. `desk` is the text of the user's own desk on the page
 /// that the command looks at. A text is saved by the whole site alone.
 ///
-/// It costs what the command's rules, the memory for it and `plan_links` cost. A command that is not
-/// built and that no rule refuses is refused as one that would change nothing.
+/// It costs what the command's rules, the memory for it and `plan_links` cost.
 pub fn prepare(
     alloc: Global,
     part: &mut TreePart,
@@ -90,21 +86,5 @@ fn find_plan(
         Group::Tree => prepare_tree(alloc, part, command, caller, now, desk),
         Group::Flow => prepare_flow(alloc, part, command, caller, now, desk),
         Group::Save => unreachable!(),
-        Group::Later => Err(refuse(part, caller, command)),
-    }
-}
-
-/// Why a command that is not built is refused: by one of its first six rules, or as one that would
-/// change nothing.
-fn refuse(part: &TreePart, caller: UserId, command: &Command) -> Fault
-    requires later { group_of command.now ≡ groups.Later }
-    requires ready { (world : worlds.TreePart) × IsReady part.now world }
-    ensures { (world : worlds.TreePart) (text : Option ContentValue) (now : ℕ)
-        → IsReady part.now world
-        → Prepares world text now caller command.now part.now (Err result) }
-{
-    match front(part, caller, command) {
-        Ok(()) => Fault::Refused(Refusal::NothingNew),
-        Err(refusal) => Fault::Refused(refusal),
     }
 }

@@ -30,6 +30,7 @@ use revision_shelf::Shelf;
 use site_types::{Command, Content, Digest, Ids, Moment, NoMemory, PageId, Reply, Url, UserId};
 use std::alloc::Global;
 use time_table::Times;
+use workflow::Flows;
 
 /// The site in memory.
 #[derive(Debug, Drop)]
@@ -56,6 +57,7 @@ impl Core {
                 rows,
                 shelf: Shelf::new(alloc),
                 grants,
+                flows: Flows::new(alloc),
                 desk_pairs: DeskPairs::new(alloc),
                 time,
                 next_page: 2,

@@ -30,7 +30,6 @@ use Rattle.site_model.proofs.BodySound.{IsKept}
 use Rattle.site_model.proofs.ClearLemmas.{first_clear, test_clear, limit_clear}
 use Rattle.site_model.proofs.CreationSound.{not_root}
 use Rattle.site_model.proofs.Deeds.{KeepsSound, below_root, plain_keeps}
-use Rattle.site_model.proofs.FlowLemmas.{IsFree, HasNoFlow, with_pages}
 use Rattle.site_model.proofs.GraftSound.{IsRoomy, MayGraft, roomy, there_given, grafted_stays, tree_grafted, regular_grafted}
 use Rattle.site_model.proofs.Groups.{AreGroups}
 use Rattle.site_model.proofs.NeedLemmas.{first_need}
@@ -230,12 +229,3 @@ alias_sound part desk now caller source parent slug sound moment fits front own 
     (alias_is_sound part now caller source parent slug sound may)
     (kept_stay part.tree after.tree
     (alias_keeps_regular part now caller source parent slug sound may)) refl (omega arith)
-
--- an alias makes no workflow and no moderation
-pub alias_none : (part : TreePart) (now caller source parent : ℕ) (slug : List ℕ) →
-    HasNoFlow part → HasNoFlow (with_alias part now caller source parent slug)
-alias_none part now caller source parent slug none =
-    with_pages part _ none
-    (AllPages-graft (λ id text body. IsFree body) parent End
-    (grown part.next_page 1 slug (alias_body caller (source_of part source)) bare bare) part.tree
-    (record { no_workflow = refl; no_moderation = refl }, tt, tt) none.pages) refl refl

@@ -1,7 +1,7 @@
 -- The command that copies a page, alone or with all below it, keeps a world sound.
 use Rattle.std.proofs.Common.{◌≡◌, ◌+◌, ◌≤◌, ℕ, Bool, true, false, nat_lt, List, [], ◌∷◌, Option, None, refl, sym, subst, arith}
 use Rattle.std.specs.Prelude.{IfSome}
-use Rattle.page_tree.specs.Tree.{Forest, bare, grown, End, HasDistinctIds, node_of, without}
+use Rattle.page_tree.specs.Tree.{Forest, bare, grown, HasDistinctIds, node_of, without}
 use Rattle.site_ids.specs.declared.ids.TheConstants.{LAST_PAGE_ID}
 use Rattle.site_ids.specs.Moment.{IsMoment}
 use Rattle.site_ids.specs.Slug.{IsSlug}
@@ -12,14 +12,14 @@ use Rattle.site_types.specs.declared.permission.Permission.TheVariants.{Add}
 use Rattle.site_types.specs.declared.refusal.Refusal.TheVariants.{IdsFull, ContentFull}
 use Rattle.tree_model.specs.Shape.{IsWhole, AllPages}
 use Rattle.tree_model.proofs.CountLemmas.{IsNode, count, once, cut_counts, node_found, has_counts}
-use Rattle.tree_model.proofs.PageLemmas.{AllPages-graft, AllPages-node_of, AllPages-weaker, AllPages-both, AllPages-counted}
+use Rattle.tree_model.proofs.PageLemmas.{AllPages-node_of, AllPages-both, AllPages-counted}
 use Rattle.tree_model.proofs.SiblingLemmas.{AreRising-node_of, SlugsDiffer-node_of}
 use Rattle.tree_model.proofs.WholeLemmas.{whole-without}
-use Rattle.site_model.specs.World.{TreePart, time_at}
+use Rattle.site_model.specs.World.{TreePart}
 use Rattle.site_model.specs.Rules.{content_full}
 use Rattle.site_model.specs.Needs.{needs_of, create_needs}
 use Rattle.site_model.specs.Front.{row_of, naming, front_rules}
-use Rattle.site_model.specs.Copies.{copied_content, to_copy, copies, copy_revisions, with_first_slug, with_copy, into_copy, copy_ids_full}
+use Rattle.site_model.specs.Copies.{copied_content, to_copy, with_copy, into_copy, copy_ids_full}
 use Rattle.site_model.specs.Desks.{desk_page}
 use Rattle.site_model.specs.Step.{rules}
 use Rattle.site_model.specs.Step as steps
@@ -28,10 +28,8 @@ use Rattle.site_model.specs.Laws.{FitsCommand}
 use Rattle.site_model.proofs.AcceptLemmas.{front_parts, page_found}
 use Rattle.site_model.proofs.BodySound.{IsKept}
 use Rattle.site_model.proofs.ClearLemmas.{first_clear, test_clear, limit_clear, neither}
-use Rattle.site_model.proofs.CopyLemmas.{IsCopied, copies_bodies}
 use Rattle.site_model.proofs.CopySound.{with_copies, IsCopyable, MayCopy, copies_keep_regular, copies_are_sound}
 use Rattle.site_model.proofs.Deeds.{KeepsSound, below_root, plain_keeps}
-use Rattle.site_model.proofs.FlowLemmas.{IsFree, AreFree, HasNoFlow, with_pages}
 use Rattle.site_model.proofs.GraftSound.{roomy}
 use Rattle.site_model.proofs.Groups.{AreGroups}
 use Rattle.site_model.proofs.RegularLemmas.{KeepRegular, kept_stay}
@@ -184,24 +182,3 @@ copy_sound part desk now caller page parent slug deep sound moment fits front ow
     (node_copyable part page sound other)) in
     plain_keeps part after caller None _ kept.sound
     (kept_stay part.tree after.tree kept.regular) refl (omega arith)
-
--- another slug of the first page changes no body
-first_free : (slug : List ℕ) (f : Forest Body) → AreFree f → AreFree (with_first_slug slug f)
-first_free slug bare all = tt
-first_free slug (grown i step text body kids rest) all = all
-
--- copies have no workflow and no moderation
-pub copy_none : (part : TreePart) (now caller page parent : ℕ) (slug : List ℕ) (deep : Bool) →
-    HasNoFlow part → HasNoFlow (with_copy part now caller page parent slug deep)
-copy_none part now caller page parent slug deep none =
-    let copied = to_copy deep (node_of page part.tree) in
-    let made = copies part caller 0 copied in
-    with_pages part _ none
-    (AllPages-graft (λ id text own. IsFree own) parent End (with_first_slug slug made) part.tree
-    (first_free slug made
-    (AllPages-weaker (λ id text own. IsCopied part caller
-    (copy_revisions part caller (time_at part now) 0 copied) id own)
-    (λ id text own. IsFree own) made
-    (λ id text own copy. subst (λ (one : Body). IsFree one) (sym copy.is)
-    (record { no_workflow = refl; no_moderation = refl }))
-    (copies_bodies part caller (time_at part now) 0 copied))) none.pages) refl refl

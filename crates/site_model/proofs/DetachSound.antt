@@ -32,7 +32,6 @@ use Rattle.site_model.proofs.AcceptLemmas.{front_parts, page_found}
 use Rattle.site_model.proofs.ClearLemmas.{first_clear, test_clear, limit_clear, rise_append}
 use Rattle.site_model.proofs.CreationSound.{own_back, moderation_front, body_front}
 use Rattle.site_model.proofs.Deeds.{plain_keeps, KeepsSound}
-use Rattle.site_model.proofs.FlowLemmas.{HasNoFlow, with_pages, free_rebodied}
 use Rattle.site_model.proofs.Groups.{AreGroups}
 use Rattle.site_model.proofs.LooseGroups.{LooseRevisions, AreLoose, loosened, tightened}
 use Rattle.site_model.proofs.NeedLemmas.{first_need}
@@ -287,13 +286,3 @@ detach_sound part desk now caller page sound moment front own =
     })) (limit_clear _ _ (test_clear _ ContentFull contents.0)))
     (kept_stay part.tree after.tree (detaching_keeps_regular part now caller page)) refl
     (omega arith)
-
--- to make an alias a regular page makes no workflow and no moderation
-pub detach_none : (part : TreePart) (now caller page : ℕ) → HasNoFlow part →
-    HasNoFlow (with_detached part now caller page)
-detach_none part now caller page none =
-    with_pages part _ none
-    (free_rebodied page _ part.tree none.pages (λ body is. record {
-      no_workflow = is.no_workflow;
-      no_moderation = is.no_moderation;
-    })) refl refl

@@ -33,7 +33,7 @@ use Rattle.site_model.proofs.RegularLemmas.{StayRegular, same_regular, kept_stay
 use Rattle.site_model.proofs.StrangerLemmas.{maker_is_user, editor_is_user}
 
 -- regular pages stay regular where one has another body with the same source
-body_stays : (part : TreePart) (page : ℕ) (change : Body → Body) →
+pub body_stays : (part : TreePart) (page : ℕ) (change : Body → Body) →
     ((body : Body) → (change body).source ≡ body.source) →
     StayRegular part.tree (rebodied page change part.tree)
 body_stays part page change same =

@@ -19,7 +19,6 @@ use Rattle.site_model.specs.Ticks.{DuePage, due_key, with_due, all_due, due_by, 
 use Rattle.site_model.specs.Sound.{IsRegular}
 use Rattle.site_model.proofs.BodyLemmas.{AllPages-found}
 use Rattle.site_model.proofs.BodySound.{IsKept, body_keeps_regular, body_keeps_sound}
-use Rattle.site_model.proofs.FlowLemmas.{IsFree, HasNoFlow, with_pages, free_rebodied}
 use Rattle.site_model.proofs.Groups.{AreGroups}
 use Rattle.site_model.proofs.OrderLemmas.{all_put}
 use Rattle.site_model.proofs.RegularLemmas.{KeepRegular, regular_source, found_regular}
@@ -109,17 +108,6 @@ each_kept change (due ∷ more) part =
       tasks = kept.tasks;
       workflows = kept.workflows;
     }
-
--- other bodies for pages make no workflow and no moderation
-pub each_free : (change : DuePage → Body → Body) (due : List DuePage) (part : TreePart) →
-    ((one : DuePage) (body : Body) → IsFree body → IsFree (change one body)) → HasNoFlow part →
-    HasNoFlow (each_changed change due part)
-each_free change [] part stays none = none
-each_free change (due ∷ more) part stays none =
-    let after : TreePart = record part { tree = rebodied due.page (change due) part.tree } in
-    each_free change more after stays
-    (with_pages part after none
-    (free_rebodied due.page (change due) part.tree none.pages (stays due)) refl refl)
 
 -- What is known of a page by its row.
 pub record IsKnown (part : TreePart) (id : ℕ) (body : Body) : Type 0 where

@@ -9,8 +9,7 @@ use Rattle.site_model.specs.Aliases.{detached_body, with_detached}
 use Rattle.site_model.specs.Delete.{each_detached}
 use Rattle.site_model.specs.Desks.{stays}
 use Rattle.site_model.proofs.BodyLemmas.{count-rebodied}
-use Rattle.site_model.proofs.DetachSound.{detaching_keeps_regular, detach_none}
-use Rattle.site_model.proofs.FlowLemmas.{HasNoFlow}
+use Rattle.site_model.proofs.DetachSound.{detaching_keeps_regular}
 use Rattle.site_model.proofs.LosingBodies.{body_stays}
 use Rattle.site_model.proofs.LosingTrees.{way_to, ids_on, way_changed, way-rebodied}
 use Rattle.site_model.proofs.RegularLemmas.{KeepRegular}
@@ -148,12 +147,6 @@ module _ (now caller : ℕ) (aliases : List ℕ) (part : TreePart) where
   each_desks =
       kept_by_each (λ made. made.desk_pairs ≡ part.desk_pairs) now caller (λ made alias is. is)
       aliases part refl
-
-  -- no workflow and no moderation comes
-  pub each_none : HasNoFlow part → HasNoFlow after
-  each_none none =
-      kept_by_each HasNoFlow now caller (λ made alias is. detach_none made now caller alias is)
-      aliases part none
 
   -- a desk stays as before
   pub each_stays : (pair : DeskPair) → stays after pair ≡ stays part pair

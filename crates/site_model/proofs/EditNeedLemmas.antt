@@ -28,7 +28,7 @@ edited_by part user page body none =
     (has part user Add page && nat_eq body.owner user) _ (rw none refl)
 
 -- a page that is there is kept
-kept_there : (page : ℕ) (tree : Forest Body) → has_page page tree ≡ true →
+pub kept_there : (page : ℕ) (tree : Forest Body) → has_page page tree ≡ true →
     (body : Body) × (body_of tree page ≡ Some body)
 kept_there page tree there =
     let node = node_found page tree (has_counts page tree there) in

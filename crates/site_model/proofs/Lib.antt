@@ -25,6 +25,12 @@ pub mod PurgeSound
 pub mod OpenSound
 pub mod FileSound
 pub mod DraftSound
+pub mod NumberLemmas
+pub mod TaskSound
+pub mod ModerationSound
+pub mod SubmitSound
+pub mod FlowSound
+pub mod FlowFacts
 pub mod StepSound
 pub mod ViewLemmas
 pub mod DeskLemmas
@@ -40,9 +46,9 @@ pub mod RightLemmas
 pub mod EditNeedLemmas
 pub mod DenialLemmas
 pub mod PageDenials
+pub mod FlowDenials
 pub mod SuperLemmas
 pub mod CreateLemmas
-pub mod FlowLemmas
 pub mod NeedLemmas
 pub mod SourceLemmas
 pub mod DetachSound
@@ -74,6 +80,7 @@ pub mod LosingOpen
 pub mod LosingSteps
 pub mod LosingMoves
 pub mod LosingFacts
+pub mod LosingAnswers
 pub mod LosingMoved
 pub mod LosingEnds
 mod Sites

@@ -14,7 +14,6 @@ use Rattle.site_model.specs.Publishing.{published_body, has_expired}
 use Rattle.site_model.specs.Ticks.{DuePage, gone_live}
 use Rattle.site_model.specs.Sound.{HasOwn, is_own, may_wait}
 use Rattle.site_model.proofs.BodySound.{IsKept, no_alias}
-use Rattle.site_model.proofs.FlowLemmas.{IsFree}
 use Rattle.site_model.proofs.KeptLemmas.{both_hold}
 
 -- the revision that is found by an id has it
@@ -191,29 +190,6 @@ live_kind moment due body =
     choice true later = refl
     choice false true = refl
     choice false false = refl
-
--- and makes no workflow and no moderation
-pub live_free : (moment : ℕ) (due : DuePage) (body : Body) → IsFree body →
-    IsFree (gone_live moment due body)
-live_free moment due body free =
-    choice (has_expired moment due.revision) (is_after moment due.revision.go_live)
-  where
-    choice : (over later : Bool) →
-        IsFree (cond over (record body { scheduled = None }) (cond later
-        (record body { scheduled = Some due.revision.id }) (record body {
-          live = true;
-          expired = false;
-          shown = Some due.revision.id;
-          scheduled = None;
-          first_published = option_or body.first_published (Some moment);
-          last_published = Some moment;
-        })))
-    choice true later =
-        record { no_workflow = free.no_workflow; no_moderation = free.no_moderation }
-    choice false true =
-        record { no_workflow = free.no_workflow; no_moderation = free.no_moderation }
-    choice false false =
-        record { no_workflow = free.no_workflow; no_moderation = free.no_moderation }
 
 -- what is kept of a page whose moment to go live has come
 pub live_fits : (part : TreePart) (moment : ℕ) (due : DuePage) (body : Body) →

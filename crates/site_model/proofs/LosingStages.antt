@@ -1,6 +1,6 @@
 -- Where moderations stand after a task or a workflow is defined, and what a tick keeps of the rights
 -- to work on pages.
-use Rattle.std.proofs.Common.{◌≡◌, ◌<◌, ◌≤◌, ◌+◌, ℕ, zero, suc, Bool, true, false, cond, nat_eq, List, [], ◌∷◌, ◌++◌, length, Option, Some, None, refl, sym, ◌∙◌, arith}
+use Rattle.std.proofs.Common.{◌≡◌, ◌<◌, ◌≤◌, ◌+◌, ℕ, zero, suc, Bool, true, false, cond, nat_eq, List, [], ◌∷◌, ◌++◌, length, Option, Some, None, refl, ◌∙◌, arith}
 use Rattle.std.specs.Prelude.{IfSome}
 use Rattle.std.specs.List.{AllByRecursion}
 use Rattle.page_tree.specs.Tree.{Forest, bare, grown}
@@ -16,23 +16,10 @@ use Rattle.site_model.specs.Publishing.{published_body, has_expired}
 use Rattle.site_model.specs.Ticks.{DuePage, each_changed, gone_live}
 use Rattle.site_model.specs.Desks.{stays}
 use Rattle.site_model.specs.Sound.{IsGiven, NamesSome, FitsModeration, IsBody, AreBodies, AreTasks}
+use Rattle.site_model.proofs.NumberLemmas.{list_front}
 use Rattle.site_model.proofs.LosingTrees.{led, first_way, way_to}
 use Rattle.site_model.proofs.LosingRights.{viewed_at}
 use Rattle.site_model.proofs.LosingBodies.{KeepsRights, body_changed, body_stays}
-
--- no list has the number 0
-list_zero : (lists : List (List ℕ)) → list_at lists 0 ≡ []
-list_zero [] = refl
-list_zero (list ∷ lists) = refl
-
--- a list stays where more are there
-list_front : (lists more : List (List ℕ)) (number : ℕ) → number ≤ length lists →
-    list_at (lists ++ more) number ≡ list_at lists number
-list_front lists more zero within = list_zero (lists ++ more) ∙ sym (list_zero lists)
-list_front [] more (suc number) within = let never : ⊥ = omega (arith, within) in absurd never
-list_front (list ∷ lists) more (suc zero) within = refl
-list_front (list ∷ lists) more (suc (suc number)) within =
-    list_front lists more (suc number) (omega (arith, within))
 
 -- the number at a place is below this one, where each is
 number_below : (next : ℕ) (numbers : List ℕ) (place : ℕ) → 1 ≤ next →

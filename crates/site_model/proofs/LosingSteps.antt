@@ -1,11 +1,10 @@
 -- Which open desks an accepted command ends.
-use Rattle.std.proofs.Common.{◌≡◌, ℕ, Option, None, Ok, refl}
+use Rattle.std.proofs.Common.{◌≡◌, ℕ, Option, None, Ok}
 use Rattle.site_types.specs.Content.{ContentValue}
 use Rattle.site_types.specs.declared.command.Command.{Command}
 use Rattle.site_types.specs.declared.command.Command.TheVariants as commands
 use Rattle.site_model.specs.World.{TreePart, Effect}
 use Rattle.site_model.specs.Front.{front_rules}
-use Rattle.site_model.specs.Desks.{desk_page, settled}
 use Rattle.site_model.specs.Step.{rules, step_by}
 use Rattle.site_model.specs.Step as steps
 use Rattle.site_model.specs.Sound.{IsSoundPart}
@@ -89,15 +88,3 @@ ended_are before after told desk now caller command sound is =
     let one = accepted before after told desk now caller command is in
     loses_few before after told caller command (steps.effect before desk now caller command)
     sound.desks (each_few before desk now caller command sound one.front one.own) one.done
-
--- The same of what the rules do not refuse, before it is asked whether the command is built.
-pub ended_by_rules : (part : TreePart) (desk : Option ContentValue) (now caller : ℕ)
-    (command : Command) → IsSoundPart part → front_rules part caller command ≡ None →
-    rules part desk now caller command ≡ None →
-    LosesFew part
-    (settled caller (desk_page command) (steps.effect part desk now caller command)).0
-    (settled caller (desk_page command) (steps.effect part desk now caller command)).1
-    caller command
-ended_by_rules part desk now caller command sound front own =
-    loses_few part _ _ caller command (steps.effect part desk now caller command) sound.desks
-    (each_few part desk now caller command sound front own) refl

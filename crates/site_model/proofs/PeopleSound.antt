@@ -26,13 +26,13 @@ use Rattle.site_model.proofs.Groups.{AreGroups}
 use Rattle.site_model.proofs.OrderLemmas.{all_put, rise_put, all_filter, rise_filter}
 
 -- one more
-all_appended : {X : Type 0} (P : X → Type 0) (xs : List X) (x : X) → AllByRecursion P xs → P x →
+pub all_appended : {X : Type 0} (P : X → Type 0) (xs : List X) (x : X) → AllByRecursion P xs → P x →
     AllByRecursion P (xs ++ x ∷ [])
 all_appended P [] x all one = (one, tt)
 all_appended P (y ∷ xs) x all one = (all.0, all_appended P xs x all.1 one)
 
 -- a list with one more is longer by one
-length_appended : {X : Type 0} (xs : List X) (x : X) → length (xs ++ x ∷ []) ≡ length xs + 1
+pub length_appended : {X : Type 0} (xs : List X) (x : X) → length (xs ++ x ∷ []) ≡ length xs + 1
 length_appended [] x = refl
 length_appended (y ∷ xs) x = let more = length_appended xs x in omega (arith, more)
 
@@ -65,7 +65,7 @@ none_found number digest (user ∷ users) is =
     choice false e h more = (e, more h)
 
 -- the next id, where one was left
-next_one : (last next : ℕ) → next ≤ last → IsNext last (next + 1)
+pub next_one : (last next : ℕ) → next ≤ last → IsNext last (next + 1)
 next_one last next left = (omega arith, omega (arith, left))
 
 -- what the test on ids tells
@@ -101,7 +101,7 @@ other_triple a b c page group number is same =
     let third : c ≡ number = cc in grind (arith, nat_tests)
 
 -- an id of a user that is there is one where more are there
-given_more : (users : ℕ) (id : Option ℕ) → IfSome id (IsGiven users) →
+pub given_more : (users : ℕ) (id : Option ℕ) → IfSome id (IsGiven users) →
     IfSome id (IsGiven (users + 1))
 given_more users None is = tt
 given_more users (Some id) is = (is.0, omega (arith, is.1))
@@ -195,7 +195,7 @@ user_keeps_sound part now superuser digest sound moment fits none =
     }
 
 -- a list that names what is there names it where more is there
-names_more : (next : ℕ) (ids : List ℕ) → NamesSome next ids → NamesSome (next + 1) ids
+pub names_more : (next : ℕ) (ids : List ℕ) → NamesSome next ids → NamesSome (next + 1) ids
 names_more next ids is = record {
   not_empty = is.not_empty;
   fits = is.fits;

@@ -92,18 +92,18 @@ found_own id before page (revision ∷ revisions) found rise is own =
         (omega (arith, lower)) rise.1) ∙ h))
     choice false here u at e h more = more e h
 
--- What the revision that is found as a page's latest one is: the page's own, and one that may wait
--- where it has a moment to go live.
-record IsLatestOf (part : TreePart) (page : ℕ) (revision : Revision) : Type 0 where
+-- What a revision of a page is that may be published: the page's own, and one that may wait where
+-- it has a moment to go live.
+pub record MayPublish (part : TreePart) (page : ℕ) (revision : Revision) : Type 0 where
   own : is_own part.revisions page (Some revision.id) ≡ true
   waits : (moment : ℕ) → is_after moment revision.go_live ≡ true →
       may_wait part.revisions page revision.id ≡ true
 
--- by the id under which it was found
-latest_by_id : (part : TreePart) (page id : ℕ) (revision : Revision) → AreGroups part →
+-- a page's own revision, by the id under which it was found
+pub found_by_id : (part : TreePart) (page id : ℕ) (revision : Revision) → AreGroups part →
     revision_with id part.revisions ≡ Some revision →
-    is_own part.revisions page (Some id) ≡ true → IsLatestOf part page revision
-latest_by_id part page id revision sound is own =
+    is_own part.revisions page (Some id) ≡ true → MayPublish part page revision
+found_by_id part page id revision sound is own =
     let by_id = found_passes (λ (one : Revision). nat_eq one.id id) part.revisions revision is in
     let same = id_found revision.id id by_id in
     let paged = found_own id 0 page part.revisions revision sound.revisions.revisions_rise is own in
@@ -135,31 +135,31 @@ kept_is_there tree page body is = choice (has_page page tree) refl
         (node_absent page tree (none_counts page tree e)) in absurd (cc)
 
 -- what is kept of a page of a sound part
-kept_body : (part : TreePart) (page : ℕ) (body : Body) → AreGroups part →
+pub kept_body : (part : TreePart) (page : ℕ) (body : Body) → AreGroups part →
     body_of part.tree page ≡ Some body → IsKept part page body
 kept_body part page body sound is =
     found_has (λ id own. IsKept part id own) page part.tree body sound.bodies.bodies
     (kept_is_there part.tree page body is) is
 
--- the latest revision of a page is its own
+-- the latest revision of a page may be published
 latest_is : (part : TreePart) (page : ℕ) (revision : Revision) → AreGroups part →
     HasNoSource part.tree page → (page ≡ 1 → ⊥) → latest_of part page ≡ Some revision →
-    IsLatestOf part page revision
+    MayPublish part page revision
 latest_is part page revision sound regular below is =
     by_body (body_of part.tree page) refl is
   where
     by_id : (body : Body) → HasOwn part.revisions page body → (latest : Option ℕ) →
         body.latest ≡ latest →
         option_and_then (λ id. revision_with id part.revisions) latest ≡ Some revision →
-        IsLatestOf part page revision
+        MayPublish part page revision
     by_id body own None at h = absurd (cc)
     by_id body own (Some id) at h =
-        latest_by_id part page id revision sound h (rw at at own.latest)
+        found_by_id part page id revision sound h (rw at at own.latest)
 
     by_body : (found : Option Body) → body_of part.tree page ≡ found →
         option_and_then (λ id. revision_with id part.revisions)
         (option_and_then (λ body. body.latest) found) ≡ Some revision →
-        IsLatestOf part page revision
+        MayPublish part page revision
     by_body None at h = absurd (cc)
     by_body (Some body) at h =
         by_id body
@@ -198,14 +198,15 @@ first_moment : (moment : ℕ) (first : Option ℕ) → IsMoment moment → IfSom
 first_moment moment None is old = is
 first_moment moment (Some first) is old = old
 
--- what is kept of a page whose latest revision is published, or scheduled
-published_fits : (part : TreePart) (page moment : ℕ) (revision : Revision) (body : Body) →
-    (page ≡ 1 → ⊥) → IsMoment moment → IsLatestOf part page revision → IsKept part page body →
-    body.source ≡ None →
-    IsKept part page (record (published_body moment revision body) {
-      moderation = after_publishing body.moderation;
-    })
-published_fits part page moment revision body below is latest kept none =
+-- what is kept of a page of which a revision is published, or scheduled, with this moderation then
+pub published_fits : (part : TreePart) (page moment : ℕ) (revision : Revision)
+    (moderation : Option Moderation) (body : Body) → (page ≡ 1 → ⊥) → IsMoment moment →
+    MayPublish part page revision →
+    IfSome moderation (FitsModeration part.revisions part.next_user part.next_workflow
+    part.workflows page) →
+    IsKept part page body → body.source ≡ None →
+    IsKept part page (record (published_body moment revision body) { moderation = moderation })
+published_fits part page moment revision moderation body below is may fits kept none =
     choice (is_after moment revision.go_live) refl
   where
     regular : HasOwn part.revisions page body
@@ -220,27 +221,27 @@ published_fits part page moment revision body below is latest kept none =
           scheduled = None;
           first_published = option_or body.first_published (Some moment);
           last_published = Some moment;
-        })) { moderation = after_publishing body.moderation })
+        })) { moderation = moderation })
     choice true after = record {
       root = λ root. absurd (below root);
       regular = λ other no_one. record {
         shown = regular.shown;
         latest = regular.latest;
         last = regular.last;
-        scheduled = latest.waits moment after;
+        scheduled = may.waits moment after;
       };
       alias = no_alias part.revisions page _ body.source none;
       owner = kept.owner;
       lock = kept.lock;
       assigned = kept.assigned;
-      moderation = cancelled_fits part page body.moderation kept.moderation;
+      moderation = fits;
       first_published = kept.first_published;
       last_published = kept.last_published;
     }
     choice false after = record {
       root = λ root. absurd (below root);
       regular = λ other no_one. record {
-        shown = latest.own;
+        shown = may.own;
         latest = regular.latest;
         last = regular.last;
         scheduled = tt;
@@ -249,7 +250,7 @@ published_fits part page moment revision body below is latest kept none =
       owner = kept.owner;
       lock = kept.lock;
       assigned = kept.assigned;
-      moderation = cancelled_fits part page body.moderation kept.moderation;
+      moderation = fits;
       first_published = first_moment moment body.first_published is kept.first_published;
       last_published = is;
     }
@@ -288,6 +289,7 @@ publish_keeps_sound part now page revision sound regular moment below is =
     }) sound moment
     (record {
       source = λ body. (same_kind (time_at part now) revision body).0;
-      kept = λ body found kept. published_fits part page (time_at part now) revision body below at
-          latest kept (regular body found);
+      kept = λ body found kept. published_fits part page (time_at part now) revision
+          (after_publishing body.moderation) body below at latest
+          (cancelled_fits part page body.moderation kept.moderation) kept (regular body found);
     })

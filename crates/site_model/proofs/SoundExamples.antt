@@ -16,7 +16,7 @@ use Rattle.site_model.specs.Sound.{IsSoundPart}
 use Rattle.site_model.specs.Reached.{IsReachedPart}
 use Rattle.site_model.proofs.ReachedSound.{step_by_keeps_reached}
 use Rattle.site_model.proofs.Sites.{titled}
-use Rattle.site_model.proofs.StartLemmas.{new_part_is_sound, new_part_has_none}
+use Rattle.site_model.proofs.StartLemmas.{new_part_is_sound}
 
 -- a digest of 32 bytes
 abbrev digest : List ℕ
@@ -46,7 +46,7 @@ unfolding step_by needs_of front_rules row_of rules effect desk_page
 with_home_is_reached =
     step_by_keeps_reached (new_part digest) with_home _ None 100 1
     (Create 1 (codes "home") (titled (codes "Home")))
-    (record { sound = new_part_is_sound digest refl; none_yet = new_part_has_none digest })
+    (record { sound = new_part_is_sound digest refl })
     (omega arith) (home_is_slug, home_fits) tt refl
 
 -- that page with another body

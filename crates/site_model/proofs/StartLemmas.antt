@@ -5,7 +5,7 @@ use Rattle.page_tree.specs.Tree.{HasDistinctIds}
 use Rattle.site_ids.specs.declared.digest.TheConstants.{DIGEST_BYTES}
 use Rattle.site_model.specs.Start.{root_alone, new_part, new_world}
 use Rattle.site_model.specs.Sound.{IsSoundPart}
-use Rattle.site_model.specs.Reached.{HasNoneYet, IsReached}
+use Rattle.site_model.specs.Reached.{IsReached}
 
 -- one page has no other's id
 one_id : HasDistinctIds root_alone
@@ -91,19 +91,9 @@ new_part_is_sound digest fits = record {
   };
 }
 
--- nothing is there that no command makes yet
-pub new_part_has_none : (digest : List ℕ) → HasNoneYet (new_part digest)
-new_part_has_none digest = record {
-  no_page_workflow = (refl, tt, tt);
-  no_moderation = (refl, tt, tt);
-  no_task = refl;
-  no_workflow = refl;
-}
-
 -- The world of a new site is one that is reached.
 pub new_world_is_reached : (digest : List ℕ) → length digest ≡ DIGEST_BYTES →
     IsReached (new_world digest)
 new_world_is_reached digest fits = record {
   sound = record { part = new_part_is_sound digest fits; desks_match = refl; texts = tt };
-  none_yet = new_part_has_none digest;
 }

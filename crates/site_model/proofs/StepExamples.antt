@@ -4,7 +4,7 @@ use Rattle.site_types.specs.Content.{ContentValue}
 use Rattle.site_types.specs.declared.command.Command.{Command}
 use Rattle.site_types.specs.declared.command.Command.TheVariants as commands
 use Rattle.site_types.specs.declared.refusal.Refusal.{Refusal}
-use Rattle.site_types.specs.declared.refusal.Refusal.TheVariants.{NoDesk, DeskTaken, NothingNew, Locked}
+use Rattle.site_types.specs.declared.refusal.Refusal.TheVariants.{NoDesk, DeskTaken, NoWorkflow, Locked}
 use Rattle.site_types.specs.declared.reply.Reply.{Reply}
 use Rattle.site_types.specs.declared.reply.Reply.TheVariants.{Done, Id, Published, Removed}
 use Rattle.site_model.specs.World.{Desk, World}
@@ -115,7 +115,7 @@ unpublished_page : said published 1 (commands.Unpublish 2) ≡ Ok Done
 unfolding needs_of front_rules row_of rules effect step_by desk_page saving step_at
 unpublished_page = refl
 
--- a command that is not built is refused
-not_built : said start 1 (commands.Submit 2) ≡ Err NothingNew
+-- a page is not submitted where neither it nor a page above it has a workflow
+not_submitted : said start 1 (commands.Submit 2) ≡ Err NoWorkflow
 unfolding needs_of front_rules row_of rules effect step_by desk_page saving step_at
-not_built = refl
+not_submitted = refl

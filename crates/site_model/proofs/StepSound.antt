@@ -1,9 +1,9 @@
--- Each command that is built keeps a world sound, before its desks are looked at.
+-- Each command keeps a world sound, before its desks are looked at.
 use Rattle.std.proofs.Common.{◌≡◌, ℕ, Bool, true, false, cond, ◌||◌, ◌&&◌, nat_eq, List, [], ◌∷◌, Option, Some, None, refl, sym, arith}
 use Rattle.site_ids.specs.Moment.{IsMoment}
 use Rattle.site_types.specs.Content.{ContentValue}
 use Rattle.site_types.specs.declared.command.Command.{Command}
-use Rattle.site_types.specs.declared.command.Command.TheVariants.{Create, Move, Delete, SetSlug, Alias, Detach, Copy, OpenDesk, SaveDesk, ShutDesk, File, Publish, Unpublish, Unschedule, Lock, Unlock, Purge, DefineUser, DefineGroup, Member, Grant, Tick}
+use Rattle.site_types.specs.declared.command.Command.TheVariants.{Create, Move, Delete, SetSlug, Alias, Detach, Copy, OpenDesk, SaveDesk, ShutDesk, File, Publish, Unpublish, Unschedule, Lock, Unlock, Purge, DefineTask, DefineWorkflow, Assign, Submit, Approve, Reject, Cancel, DefineUser, DefineGroup, Member, Grant, Tick}
 use Rattle.site_types.specs.declared.permission.Permission.{Permission}
 use Rattle.site_types.specs.declared.permission.Permission.TheVariants.{Add}
 use Rattle.site_types.specs.declared.position.Position.{Position}
@@ -16,7 +16,7 @@ use Rattle.site_model.specs.Rules.{are_root}
 use Rattle.site_model.specs.Needs.{needs_of, create_needs, move_needs, slug_needs, superuser_needs}
 use Rattle.site_model.specs.Front.{StopsOthers, row_of, naming, on_page, on_move, front_rules}
 use Rattle.site_model.specs.Desks.{desk_page}
-use Rattle.site_model.specs.Step.{is_built, rules}
+use Rattle.site_model.specs.Step.{rules}
 use Rattle.site_model.specs.Step as steps
 use Rattle.site_model.specs.Sound.{AreDesks}
 use Rattle.site_model.specs.Laws.{FitsCommand, FitsDesk}
@@ -29,6 +29,7 @@ use Rattle.site_model.proofs.Deeds.{KeepsSound, below_root, plain_keeps}
 use Rattle.site_model.proofs.DeletingSound.{delete_sound}
 use Rattle.site_model.proofs.DetachSound.{detach_sound}
 use Rattle.site_model.proofs.DraftSound.{open_sound, shut_sound, file_sound, publish_sound, unpublish_sound, lock_sound, unlock_sound}
+use Rattle.site_model.proofs.FlowSound.{task_sound, workflow_sound, assign_sound, submit_sound, approve_sound, reject_sound, cancel_sound}
 use Rattle.site_model.proofs.GrantSound.{grant_keeps_sound}
 use Rattle.site_model.proofs.Groups.{AreGroups}
 use Rattle.site_model.proofs.MoveSound.{move_keeps_sound, move_keeps_regular}
@@ -143,74 +144,87 @@ grant_sound part desk now caller group page permission on sound moment front own
       users = omega arith;
     }
 
--- each command that is built, and no other is accepted
-pub built_sound : (part : TreePart) (desk : Option ContentValue) (now caller : ℕ)
+-- each command
+pub command_sound : (part : TreePart) (desk : Option ContentValue) (now caller : ℕ)
     (command : Command) → AreGroups part → AreDesks part → IsMoment now →
     FitsCommand command → FitsDesk part caller (desk_page command) desk →
-    front_rules part caller command ≡ None → is_built command ≡ true →
+    front_rules part caller command ≡ None →
     rules part desk now caller command ≡ None →
     KeepsSound part caller (desk_page command) (steps.effect part desk now caller command)
 unfolding rules steps.effect desk_page
-built_sound part desk now caller (Create parent slug content) sound desks moment fits at
-    front built own =
+command_sound part desk now caller (Create parent slug content) sound desks moment fits at
+    front own =
     create_sound part desk now caller parent slug content sound moment fits front own
-built_sound part desk now caller (Move page target position) sound desks moment fits at
-    front built own =
+command_sound part desk now caller (Move page target position) sound desks moment fits at
+    front own =
     move_sound part desk now caller page target position sound moment front own
-built_sound part desk now caller (Delete page) sound desks moment fits at front built own =
+command_sound part desk now caller (Delete page) sound desks moment fits at front own =
     delete_sound part desk now caller page sound moment front own
-built_sound part desk now caller (SetSlug page slug) sound desks moment fits at front
-    built own =
+command_sound part desk now caller (SetSlug page slug) sound desks moment fits at front
+    own =
     slug_sound part desk now caller page slug sound moment fits front own
-built_sound part desk now caller (DefineUser superuser digest) sound desks moment fits at
-    front built own =
+command_sound part desk now caller (DefineUser superuser digest) sound desks moment fits at
+    front own =
     plain_keeps part _ caller None _
     (user_keeps_sound part now superuser digest sound moment fits own) (same_regular part.tree)
     refl (omega arith)
-built_sound part desk now caller DefineGroup sound desks moment fits at front built own =
+command_sound part desk now caller DefineGroup sound desks moment fits at front own =
     plain_keeps part _ caller None _ (group_keeps_sound part now sound moment own)
     (same_regular part.tree) refl (omega arith)
-built_sound part desk now caller (Member user group on) sound desks moment fits at front
-    built own =
+command_sound part desk now caller (Member user group on) sound desks moment fits at front
+    own =
     plain_keeps part _ caller None _ (member_keeps_sound part now user group on sound moment own)
     (same_regular part.tree) refl (omega arith)
-built_sound part desk now caller (Grant group page permission on) sound desks moment fits at
-    front built own =
+command_sound part desk now caller (Grant group page permission on) sound desks moment fits at
+    front own =
     grant_sound part desk now caller group page permission on sound moment front own
-built_sound part desk now caller (OpenDesk page) sound desks moment fits at front
-    built own =
+command_sound part desk now caller (OpenDesk page) sound desks moment fits at front
+    own =
     open_sound part desk now caller page sound moment front own
-built_sound part desk now caller (SaveDesk page content) sound desks moment fits at front
-    built own =
+command_sound part desk now caller (SaveDesk page content) sound desks moment fits at front
+    own =
     plain_keeps part part caller (Some page) Done sound (same_regular part.tree) refl (omega arith)
-built_sound part desk now caller (ShutDesk page) sound desks moment fits at front
-    built own =
+command_sound part desk now caller (ShutDesk page) sound desks moment fits at front
+    own =
     shut_sound part now caller page sound moment
-built_sound part desk now caller (File page go_live expire) sound desks moment fits at front
-    built own =
+command_sound part desk now caller (File page go_live expire) sound desks moment fits at front
+    own =
     file_sound part desk now caller page go_live expire sound desks moment fits at own
-built_sound part desk now caller (Publish page) sound desks moment fits at front built own =
+command_sound part desk now caller (Publish page) sound desks moment fits at front own =
     publish_sound part desk now caller page sound moment front
-built_sound part desk now caller (Unpublish page) sound desks moment fits at front
-    built own =
+command_sound part desk now caller (Unpublish page) sound desks moment fits at front
+    own =
     unpublish_sound part desk now caller page sound moment front
-built_sound part desk now caller (Lock page) sound desks moment fits at front built own =
+command_sound part desk now caller (Lock page) sound desks moment fits at front own =
     lock_sound part desk now caller page sound moment front own
-built_sound part desk now caller (Unlock page) sound desks moment fits at front built own =
+command_sound part desk now caller (Unlock page) sound desks moment fits at front own =
     unlock_sound part desk now caller page sound moment front
-built_sound part desk now caller (Purge page) sound desks moment fits at front built own =
+command_sound part desk now caller (Purge page) sound desks moment fits at front own =
     plain_keeps part _ caller None _ (purge_keeps_sound part now page sound moment)
     (same_regular part.tree) refl (omega arith)
-built_sound part desk now caller (Alias source parent slug) sound desks moment fits at front
-    built own =
+command_sound part desk now caller (Alias source parent slug) sound desks moment fits at front
+    own =
     alias_sound part desk now caller source parent slug sound moment fits front own
-built_sound part desk now caller (Detach page) sound desks moment fits at front built own =
+command_sound part desk now caller (Detach page) sound desks moment fits at front own =
     detach_sound part desk now caller page sound moment front own
-built_sound part desk now caller (Copy page parent slug deep) sound desks moment fits at front
-    built own =
+command_sound part desk now caller (Copy page parent slug deep) sound desks moment fits at front
+    own =
     copy_sound part desk now caller page parent slug deep sound moment fits front own
-built_sound part desk now caller (Unschedule page) sound desks moment fits at front built own =
+command_sound part desk now caller (Unschedule page) sound desks moment fits at front own =
     unschedule_sound part desk now caller page sound moment front
-built_sound part desk now caller Tick sound desks moment fits at front built own =
+command_sound part desk now caller Tick sound desks moment fits at front own =
     tick_sound part desk now caller sound moment
-built_sound part desk now caller _ sound desks moment fits at front built own = absurd (cc)
+command_sound part desk now caller (DefineTask groups) sound desks moment fits at front own =
+    task_sound part desk now caller groups sound moment fits own
+command_sound part desk now caller (DefineWorkflow tasks) sound desks moment fits at front own =
+    workflow_sound part desk now caller tasks sound moment fits own
+command_sound part desk now caller (Assign page workflow) sound desks moment fits at front own =
+    assign_sound part desk now caller page workflow sound moment own
+command_sound part desk now caller (Submit page) sound desks moment fits at front own =
+    submit_sound part desk now caller page sound moment front own
+command_sound part desk now caller (Approve page) sound desks moment fits at front own =
+    approve_sound part desk now caller page sound moment front
+command_sound part desk now caller (Reject page) sound desks moment fits at front own =
+    reject_sound part desk now caller page sound moment front
+command_sound part desk now caller (Cancel page) sound desks moment fits at front own =
+    cancel_sound part desk now caller page sound moment front

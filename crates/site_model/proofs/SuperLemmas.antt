@@ -7,7 +7,7 @@ use Rattle.site_ids.specs.declared.ids.TheConstants.{LAST_USER_ID, LAST_GROUP_ID
 use Rattle.site_types.specs.Content.{ContentValue}
 use Rattle.site_types.specs.declared.body.Body.{Body}
 use Rattle.site_types.specs.declared.command.Command.{Command}
-use Rattle.site_types.specs.declared.command.Command.TheVariants.{Create, Move, Delete, SetSlug, Alias, Detach, Copy, OpenDesk, SaveDesk, ShutDesk, File, Publish, Unpublish, Unschedule, Lock, Unlock, Purge, DefineUser, DefineGroup, Member, Grant, Tick}
+use Rattle.site_types.specs.declared.command.Command.TheVariants.{Create, Move, Delete, SetSlug, Alias, Detach, Copy, OpenDesk, SaveDesk, ShutDesk, File, Publish, Unpublish, Unschedule, Lock, Unlock, Purge, DefineTask, DefineWorkflow, Assign, Submit, Approve, Reject, Cancel, DefineUser, DefineGroup, Member, Grant, Tick}
 use Rattle.site_types.specs.declared.permission.Permission.{Permission}
 use Rattle.site_types.specs.declared.refusal.NameKind.TheVariants as kinds
 use Rattle.site_types.specs.declared.refusal.Refusal.{Refusal}
@@ -16,24 +16,20 @@ use Rattle.site_types.specs.declared.refusal.Refusal.TheVariants as refusals
 use Rattle.site_model.specs.World.{TreePart, time_at}
 use Rattle.site_model.specs.Limits.{MAX_GRANTS}
 use Rattle.site_model.specs.Rights.{Rights, is_superuser, rights_of, user_of}
-use Rattle.site_model.specs.Rules.{refused_if, first_of, no_page, no_pages, are_root, ids_full, is_given, no_user, no_group}
+use Rattle.site_model.specs.Rules.{refused_if, no_page, no_pages, are_root, ids_full, is_given, no_user, no_group}
 use Rattle.site_model.specs.Views.{Stage, body_of, view_of, is_asked}
 use Rattle.site_model.specs.Needs.{may, needs_of, denied}
 use Rattle.site_model.specs.Front.{Stops, StopsNobody, StopsOthers, StopsEveryone, CommandRow, row_of, locked, is_alias, aliased, in_moderation, locked_by, stage_in, front_by, front_rules}
-use Rattle.site_model.specs.Create.{created, creation_rules}
-use Rattle.site_model.specs.Moves.{move_rules}
-use Rattle.site_model.specs.Slugs.{slug_rules}
-use Rattle.site_model.specs.Users.{is_membership, is_grant, agree, grants_after, user_rules, group_rules, member_rules, grant_rules}
+use Rattle.site_model.specs.Create.{created}
+use Rattle.site_model.specs.Users.{is_membership, is_grant, agree, grants_after, user_rules, member_rules, grant_rules}
 use Rattle.site_model.specs.Bodies.{latest_of}
-use Rattle.site_model.specs.Aliases.{alias_rules, detach_rules}
-use Rattle.site_model.specs.Copies.{copy_rules}
-use Rattle.site_model.specs.Delete.{delete_rules}
-use Rattle.site_model.specs.Ticks.{due_at, is_idle, tick_rules}
-use Rattle.site_model.specs.Publishing.{publish_rules, unpublish_rules, unschedule_rules, lock_rules, unlock_rules, purge_rules}
-use Rattle.site_model.specs.Desks.{desk_page, no_desk, open_rules, file_rules, settled}
-use Rattle.site_model.specs.Step.{is_built, rules, refusal_of, unless_refused, step_by}
+use Rattle.site_model.specs.Ticks.{due_at, is_idle}
+use Rattle.site_model.specs.Moderations.{WasRejected, WasCancelled}
+use Rattle.site_model.specs.Desks.{desk_page, settled}
+use Rattle.site_model.specs.Step.{rules, refusal_of, unless_refused, step_by}
 use Rattle.site_model.specs.Step as steps
 use Rattle.site_model.proofs.DenialLemmas.{is_denied, first_says, test_says, all_say, ids_say, new_says, desk_says, open_says, file_says, publish_says, unpublish_says, unscheduling_says, locking_says, unlocking_says, purge_says}
+use Rattle.site_model.proofs.FlowDenials.{task_says, workflow_says, assign_says, submit_says, event_says, approve_says}
 use Rattle.site_model.proofs.PageDenials.{create_says, move_says, slug_says, delete_says, aliasing_says, detach_says, copy_says}
 
 -- nor pages that are named
@@ -127,64 +123,44 @@ user_says part digest =
     all_say (refused_if known NothingNew ∷ ids_full LAST_USER_ID part.next_user ∷ [])
     (new_says known, (ids_say LAST_USER_ID part.next_user, tt))
 
--- nor do the rules of a command's own, where it is built
+-- nor do the rules of a command's own
 own_says : (part : TreePart) (desk : Option ContentValue) (now caller : ℕ) (command : Command) →
-    is_denied (first_of (refused_if (not (is_built command)) NothingNew
-    ∷ rules part desk now caller command ∷ [])) ≡ false
+    is_denied (rules part desk now caller command) ≡ false
 unfolding rules
 own_says part desk now caller (Create parent slug content) =
-    let after = created part now caller parent slug content in
-    first_says (creation_rules part after parent slug) [] (create_says part after parent slug) refl
-own_says part desk now caller (Move page target position) =
-    first_says (move_rules part.tree page target position) []
-    (move_says part.tree page target position) refl
-own_says part desk now caller (Delete page) =
-    first_says (delete_rules part now caller page) [] (delete_says part now caller page) refl
-own_says part desk now caller (SetSlug page slug) =
-    first_says (slug_rules part.tree page slug) [] (slug_says part.tree page slug) refl
-own_says part desk now caller (OpenDesk page) =
-    first_says (open_rules part page) [] (open_says part page) refl
-own_says part desk now caller (SaveDesk page content) =
-    first_says (no_desk desk) [] (desk_says desk) refl
-own_says part desk now caller (ShutDesk page) =
-    first_says (no_desk desk) [] (desk_says desk) refl
+    create_says part (created part now caller parent slug content) parent slug
+own_says part desk now caller (Move page target position) = move_says part.tree page target position
+own_says part desk now caller (Delete page) = delete_says part now caller page
+own_says part desk now caller (SetSlug page slug) = slug_says part.tree page slug
+own_says part desk now caller (OpenDesk page) = open_says part page
+own_says part desk now caller (SaveDesk page content) = desk_says desk
+own_says part desk now caller (ShutDesk page) = desk_says desk
 own_says part desk now caller (File page go_live expire) =
-    first_says (file_rules part now caller page go_live expire desk) []
-    (file_says part now caller page go_live expire desk) refl
-own_says part desk now caller (Publish page) =
-    first_says (publish_rules part now page (latest_of part page)) []
-    (publish_says part now page (latest_of part page)) refl
-own_says part desk now caller (Unpublish page) =
-    first_says (unpublish_rules part page) [] (unpublish_says part page) refl
-own_says part desk now caller (Lock page) =
-    first_says (lock_rules caller) [] (locking_says caller) refl
-own_says part desk now caller (Unlock page) =
-    first_says (unlock_rules part page) [] (unlocking_says part page) refl
-own_says part desk now caller (Purge page) =
-    first_says (purge_rules part page) [] (purge_says part page) refl
-own_says part desk now caller (DefineUser superuser digest) =
-    first_says (user_rules part digest) [] (user_says part digest) refl
-own_says part desk now caller DefineGroup =
-    first_says (group_rules part) [] (ids_say LAST_GROUP_ID part.next_group) refl
-own_says part desk now caller (Member user group on) =
-    first_says (member_rules part user group on) [] (member_says part user group on) refl
+    file_says part now caller page go_live expire desk
+own_says part desk now caller (Publish page) = publish_says part now page (latest_of part page)
+own_says part desk now caller (Unpublish page) = unpublish_says part page
+own_says part desk now caller (Lock page) = locking_says caller
+own_says part desk now caller (Unlock page) = unlocking_says part page
+own_says part desk now caller (Purge page) = purge_says part page
+own_says part desk now caller (DefineUser superuser digest) = user_says part digest
+own_says part desk now caller DefineGroup = ids_say LAST_GROUP_ID part.next_group
+own_says part desk now caller (Member user group on) = member_says part user group on
 own_says part desk now caller (Grant group page permission on) =
-    first_says (grant_rules part group page permission on) []
-    (grant_says part group page permission on) refl
+    grant_says part group page permission on
 own_says part desk now caller (Alias source parent slug) =
-    first_says (alias_rules part now caller source parent slug) []
-    (aliasing_says part now caller source parent slug) refl
-own_says part desk now caller (Detach page) =
-    first_says (detach_rules part now caller page) [] (detach_says part now caller page) refl
+    aliasing_says part now caller source parent slug
+own_says part desk now caller (Detach page) = detach_says part now caller page
 own_says part desk now caller (Copy page parent slug deep) =
-    first_says (copy_rules part now caller page parent slug deep) []
-    (copy_says part now caller page parent slug deep) refl
-own_says part desk now caller (Unschedule page) =
-    first_says (unschedule_rules part page) [] (unscheduling_says part page) refl
-own_says part desk now caller Tick =
-    first_says (tick_rules part now) []
-    (new_says (is_idle (due_at part (time_at part now)))) refl
-own_says part desk now caller _ = refl
+    copy_says part now caller page parent slug deep
+own_says part desk now caller (Unschedule page) = unscheduling_says part page
+own_says part desk now caller Tick = new_says (is_idle (due_at part (time_at part now)))
+own_says part desk now caller (DefineTask groups) = task_says part groups
+own_says part desk now caller (DefineWorkflow tasks) = workflow_says part tasks
+own_says part desk now caller (Assign page workflow) = assign_says part page workflow
+own_says part desk now caller (Submit page) = submit_says part page
+own_says part desk now caller (Approve page) = approve_says part now page
+own_says part desk now caller (Reject page) = event_says part WasRejected page
+own_says part desk now caller (Cancel page) = event_says part WasCancelled page
 
 -- what is in two refused results that are the same
 same_error : {Made : Type 0} (x y : Refusal) → ◌≡◌ {A = Result Made Refusal} (Err x) (Err y) →
@@ -209,7 +185,8 @@ superusers_may_all part desk now caller need command is = (
   λ no.
       let says = first_says (front_rules part caller command) _
       (front_says part caller (row_of command) (needs_of part caller command) is)
-      (own_says part desk now caller command) in
+      (first_says (rules part desk now caller command) [] (own_says part desk now caller command)
+      refl) in
       let same = refused_by (refusal_of part desk now caller command)
       (settled caller (desk_page command) (steps.effect part desk now caller command))
       (Denied need) no

@@ -22,11 +22,10 @@ use Rattle.site_model.specs.Step as steps
 use Rattle.site_model.proofs.AcceptLemmas.{front_parts}
 use Rattle.site_model.proofs.BodySound.{body_keeps_regular, unschedule_keeps_sound}
 use Rattle.site_model.proofs.Deeds.{KeepsSound, below_root, plain_keeps}
-use Rattle.site_model.proofs.FlowLemmas.{HasNoFlow, with_pages, free_rebodied}
 use Rattle.site_model.proofs.Groups.{AreGroups}
 use Rattle.site_model.proofs.RegularLemmas.{KeepRegular, kept_stay, not_alias}
-use Rattle.site_model.proofs.DueLemmas.{FitsDue, IsKnown, IsOwnPage, at_moment, each_sound, each_regular, each_kept, each_free, rows_known, all_due_hold, due_holds, live_own, scheduled_own, own_regular}
-use Rattle.site_model.proofs.LiveLemmas.{IsWaiting, waiting_found, expired_fits, live_kind, live_free, live_fits}
+use Rattle.site_model.proofs.DueLemmas.{FitsDue, IsKnown, IsOwnPage, at_moment, each_sound, each_regular, each_kept, rows_known, all_due_hold, due_holds, live_own, scheduled_own, own_regular}
+use Rattle.site_model.proofs.LiveLemmas.{IsWaiting, waiting_found, expired_fits, live_kind, live_fits}
 
 -- a schedule is emptied by command
 pub unschedule_sound : (part : TreePart) (desk : Option ContentValue) (now caller page : ℕ) →
@@ -43,16 +42,6 @@ unschedule_sound part desk now caller page sound moment front =
     (λ same. below_root page parts.below (sym same)))
     (kept_stay part.tree after.tree (body_keeps_regular part.tree page _ (λ body. refl))) refl
     (omega arith)
-
--- an empty schedule makes no workflow and no moderation
-pub unschedule_none : (part : TreePart) (now page : ℕ) → HasNoFlow part →
-    HasNoFlow (unschedule part now page).part
-unschedule_none part now page none =
-    with_pages part _ none
-    (free_rebodied page _ part.tree none.pages (λ body is. record {
-      no_workflow = is.no_workflow;
-      no_moderation = is.no_moderation;
-    })) refl refl
 
 -- a live page stops being live as it expires
 abbrev expired_body : DuePage → Body → Body
@@ -175,15 +164,3 @@ tick_sound part desk now caller sound moment =
     plain_keeps part (tick part now).part caller None _ (tick_keeps_sound part now sound moment)
     (kept_stay part.tree (tick part now).part.tree (tick_keeps_regular part now))
     (second.pairs ∙ first.pairs) (omega (arith, first.users, second.users))
-
--- a tick makes no workflow and no moderation
-pub tick_none : (part : TreePart) (now : ℕ) → HasNoFlow part → HasNoFlow (tick part now).part
-tick_none part now none =
-    let at = time_at part now in
-    let expired = with_expired part at in
-    let made = each_free (gone_live at) (go_lives expired at) expired (live_free at)
-    (each_free expired_body (expiries part at) part
-    (λ due body free.
-    record { no_workflow = free.no_workflow; no_moderation = free.no_moderation }) none) in
-    with_pages (each_changed (gone_live at) (go_lives expired at) expired) (tick part now).part made
-    made.pages refl refl

@@ -22,7 +22,7 @@ use Rattle.site_model.proofs.DeskSound.{map_filter, ended_pairs, settled_sound, 
 use Rattle.site_model.proofs.Groups.{groups_of}
 use Rattle.site_model.proofs.OrderLemmas.{all_filter}
 use Rattle.site_model.proofs.OwnText.{own_text_fits}
-use Rattle.site_model.proofs.StepSound.{built_sound}
+use Rattle.site_model.proofs.StepSound.{command_sound}
 
 -- What an accepted step of the tree part leaves, beside these desks of the part before it.
 record LeavesSound (after : TreePart) (told : Effect) (desks : List Desk) : Type 0 where
@@ -62,8 +62,8 @@ step_by_leaves before after told desk now caller command desks sound moment fits
     is =
     let one = accepted before after told desk now caller command is in
     let deed = steps.effect before desk now caller command in
-    let kept = built_sound before desk now caller command (groups_of before sound) sound.desks
-    moment fits at one.front one.built one.own in
+    let kept = command_sound before desk now caller command (groups_of before sound) sound.desks
+    moment fits at one.front one.own in
     subst (λ (made : TreePart × Effect). LeavesSound made.0 made.1 desks) one.done
     (settled_leaves before caller (desk_page command) deed desks sound kept match texts)
 

@@ -1,6 +1,7 @@
 -- The laws of the world, each proved in src/laws.rt.
 use Rattle.std.specs.Prelude.{◌≡◌, ℕ, ◌≤◌, ◌==◌, ◌||◌, ◌&&◌, true, false, not, filter, List, [], ◌∷◌, ◌++◌, length, Option, Some, None, Ok, Err, IfSome, max}
 use Rattle.std.specs.List.{AllByRecursion, list_any}
+use Rattle.std.specs.Option.{is_none}
 use Rattle.page_tree.specs.Tree.{HasDistinctIds, has_page}
 use Rattle.page_tree.specs.Rows.{Row, rows_of, raise_count}
 use Rattle.site_ids.specs.declared.digest.TheConstants.{DIGEST_BYTES}
@@ -22,10 +23,11 @@ use Rattle.site_model.specs.Needs.{may, edit_need}
 use Rattle.site_model.specs.Create.{plain_revision}
 use Rattle.site_model.specs.Delete.{with_deleted, deleted_at_once}
 use Rattle.site_model.specs.Desks.{desk_page, own_text, settled, stays}
-use Rattle.site_model.specs.Step.{is_built, rules, effect, unless_refused, step_by, step}
+use Rattle.site_model.specs.Step.{rules, effect, unless_refused, step_by, step}
 use Rattle.site_model.specs.Parts.{part_of, touches}
 use Rattle.site_model.specs.Start.{new_world}
-use Rattle.site_model.specs.Sound.{IsSoundPart, IsSound, NumbersRise}
+use Rattle.site_model.specs.Moderating.{nearest_workflow, moderation_of, after_event, submission}
+use Rattle.site_model.specs.Sound.{IsGiven, FitsModeration, IsSoundPart, IsSound, NumbersRise}
 use Rattle.site_model.specs.Reached.{HasNoModeration, IsReachedPart, IsReached, draft_need}
 
 -- A list of ids in a command: 1 to 16 of them.
@@ -114,11 +116,10 @@ StepKeepsReached =
     IsReached before → IsMoment entry.moment → FitsCommand entry.command →
     step before entry ≡ Ok (after, reply) → IsReached after
 
--- A step of a command that is built is its rules and its effect, with the desks that end.
+-- A step is its rules and its effect, with the desks that end.
 abbrev pub StepIsSettled : Type 0
 StepIsSettled =
     (part : TreePart) (desk : Option ContentValue) (now caller : ℕ) (command : Command) →
-    is_built command ≡ true →
     step_by part desk now caller command
     ≡ unless_refused
     (first_of (front_rules part caller command ∷ rules part desk now caller command ∷ []))
@@ -176,6 +177,27 @@ EditNeedUnmoderated =
     (part : TreePart) (user page : ℕ) →
     HasNoModeration part.tree → has_page page part.tree ≡ true →
     edit_need part user page ≡ draft_need part user page
+
+-- In a sound world the nearest workflow of a page is there.
+abbrev pub NearestIsGiven : Type 0
+NearestIsGiven =
+    (part : TreePart) (page : ℕ) → IsSoundPart part →
+    IfSome (nearest_workflow part page) (IsGiven part.next_workflow)
+
+-- In a sound world the moderation of a page names a workflow, a task within it, a revision of the
+-- page and a user.
+abbrev pub ModerationNames : Type 0
+ModerationNames =
+    (part : TreePart) (page : ℕ) → IsSoundPart part →
+    IfSome (moderation_of part page)
+    (FitsModeration part.revisions part.next_user part.next_workflow part.workflows page)
+
+-- Where the first six rules do not refuse to submit a page, a moderation begins or goes on.
+abbrev pub SubmissionHasPlace : Type 0
+SubmissionHasPlace =
+    (part : TreePart) (caller page : ℕ) →
+    front_rules part caller (commands.Submit page) ≡ None →
+    is_none (after_event part (submission part caller page) page) ≡ false
 
 -- What a deletion makes of a sound world is told at once by the world before: each alias that is
 -- left becomes what it would by itself.

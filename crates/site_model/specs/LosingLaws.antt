@@ -1,20 +1,26 @@
 -- The laws of the open desks that commands end, each proved in src/laws.rt.
-use Rattle.std.specs.Prelude.{◌≡◌, ℕ, Bool, true, false, ◌==◌, ◌&&◌, ◌||◌, not, filter, List, [], ◌∷◌, ◌++◌, Option, Ok, if◌then◌else◌}
+use Rattle.std.specs.Prelude.{◌≡◌, ℕ, Bool, true, false, ◌==◌, ◌&&◌, ◌||◌, not, filter, List, [], ◌∷◌, ◌++◌, Option, Some, Ok, if◌then◌else◌}
 use Rattle.std.specs.List.{AllByRecursion, list_any}
+use Rattle.std.specs.Option.{option_map}
 use Rattle.page_tree.specs.Tree.{Forest}
 use Rattle.site_types.specs.Content.{ContentValue}
 use Rattle.site_types.specs.declared.body.Body.{Body}
 use Rattle.site_types.specs.declared.command.Command.{Command}
 use Rattle.site_types.specs.declared.command.Command.TheVariants as commands
+use Rattle.site_types.specs.declared.moderation.Moderation.{Moderation}
 use Rattle.site_types.specs.declared.permission.Permission.{Permission}
 use Rattle.site_types.specs.declared.permission.Permission.TheVariants.{Add, Change}
 use Rattle.site_types.specs.declared.position.Position.{Position}
+use Rattle.site_types.specs.declared.revision.Revision.{Revision}
 use Rattle.tree_model.specs.Places.{parent_at}
 use Rattle.site_model.specs.World.{DeskPair, TreePart, Effect}
 use Rattle.site_model.specs.Rights.{rights_of, permits, above_of, has}
-use Rattle.site_model.specs.Views.{View, view_of, meets, moderates}
+use Rattle.site_model.specs.Views.{View, stage_of, view_of, meets, moderates}
 use Rattle.site_model.specs.Users.{members_after, grants_after}
-use Rattle.site_model.specs.Desks.{desk_page, stays, is_shut}
+use Rattle.site_model.specs.Desks.{desk_page, keeps_desk, stays, is_shut}
+use Rattle.site_model.specs.Bodies.{latest_of}
+use Rattle.site_model.specs.Moderations.{WasApproved, WasRejected, WasCancelled, after_publishing}
+use Rattle.site_model.specs.Moderating.{moderation_of, after_event, submission}
 use Rattle.site_model.specs.Step.{step_by}
 use Rattle.site_model.specs.Sound.{IsSoundPart}
 use Rattle.site_model.specs.Reached.{HasNoModeration}
@@ -79,6 +85,68 @@ PublishEndsNone =
     (now caller page : ℕ) → IsSoundPart before → HasNoModeration before.tree →
     step_by before desk now caller (commands.Publish page) ≡ Ok (after, told) →
     told.ended ≡ []
+
+-- what is seen of a page where its moderation is this one
+abbrev pub seen_with : TreePart → Option Moderation → View → View
+seen_with part moderation view = record view { stage = stage_of part moderation }
+
+-- Whether an open desk stays where the moderation of its page is this one: by the rights, and by
+-- all else that is seen of the page before.
+abbrev pub stays_with : TreePart → Option Moderation → DeskPair → Bool
+stays_with part moderation pair =
+    keeps_desk (rights_of part pair.user)
+    (option_map (seen_with part moderation) (view_of part pair.page))
+
+-- the desk on a page, where it does not stay with this moderation
+abbrev pub desks_lost_with : TreePart → ℕ → Option Moderation → List DeskPair
+desks_lost_with part page moderation =
+    filter (λ pair. (pair.page == page) && not (stays_with part moderation pair)) part.desk_pairs
+
+-- An accepted submission ends the desk on the page where it does not stay with the moderation that
+-- is left, and no other.
+abbrev pub SubmitEnds : Type 0
+SubmitEnds =
+    (before after : TreePart) (told : Effect) (desk : Option ContentValue)
+    (now caller page : ℕ) (left : Moderation) → IsSoundPart before →
+    after_event before (submission before caller page) page ≡ Some left →
+    step_by before desk now caller (commands.Submit page) ≡ Ok (after, told) →
+    told.ended ≡ desks_lost_with before page (Some left)
+
+-- So does an approval.
+abbrev pub ApproveEnds : Type 0
+ApproveEnds =
+    (before after : TreePart) (told : Effect) (desk : Option ContentValue)
+    (now caller page : ℕ) (left : Moderation) → IsSoundPart before →
+    after_event before WasApproved page ≡ Some left →
+    step_by before desk now caller (commands.Approve page) ≡ Ok (after, told) →
+    told.ended ≡ desks_lost_with before page (Some left)
+
+-- So does a rejection.
+abbrev pub RejectEnds : Type 0
+RejectEnds =
+    (before after : TreePart) (told : Effect) (desk : Option ContentValue)
+    (now caller page : ℕ) (left : Moderation) → IsSoundPart before →
+    after_event before WasRejected page ≡ Some left →
+    step_by before desk now caller (commands.Reject page) ≡ Ok (after, told) →
+    told.ended ≡ desks_lost_with before page (Some left)
+
+-- So does a moderation that is given up.
+abbrev pub CancelEnds : Type 0
+CancelEnds =
+    (before after : TreePart) (told : Effect) (desk : Option ContentValue)
+    (now caller page : ℕ) (left : Moderation) → IsSoundPart before →
+    after_event before WasCancelled page ≡ Some left →
+    step_by before desk now caller (commands.Cancel page) ≡ Ok (after, told) →
+    told.ended ≡ desks_lost_with before page (Some left)
+
+-- To publish a page ends the desk on it where it does not stay once the moderation is given up.
+abbrev pub PublishEnds : Type 0
+PublishEnds =
+    (before after : TreePart) (told : Effect) (desk : Option ContentValue)
+    (now caller page : ℕ) (revision : Revision) → IsSoundPart before →
+    latest_of before page ≡ Some revision →
+    step_by before desk now caller (commands.Publish page) ≡ Ok (after, told) →
+    told.ended ≡ desks_lost_with before page (after_publishing (moderation_of before page))
 
 -- After a membership began or ended, a desk stays by the memberships alone.
 abbrev pub StaysByMembers : Type 0

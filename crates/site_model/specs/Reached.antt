@@ -1,6 +1,6 @@
--- What holds of every world that the commands which are built reach from a new site's: it is sound,
--- and what no command makes yet is not there.
-use Rattle.std.specs.Prelude.{◌≡◌, ℕ, false, ◌&&◌, ◌||◌, ◌==◌, Bool, [], Option, Some, None}
+-- What holds of every world that commands reach from a new site's: it is sound. Beside it, pages
+-- without a moderation, and who may edit them.
+use Rattle.std.specs.Prelude.{◌≡◌, ℕ, false, ◌&&◌, ◌||◌, ◌==◌, Bool, Option, Some, None}
 use Rattle.page_tree.specs.Tree.{Forest}
 use Rattle.site_types.specs.declared.body.Body.{Body}
 use Rattle.site_types.specs.declared.permission.Permission.TheVariants.{Add, Change}
@@ -11,30 +11,17 @@ use Rattle.site_model.specs.Views.{body_of}
 use Rattle.site_model.specs.Needs.{unless_met}
 use Rattle.site_model.specs.Sound.{IsSoundPart, IsSound}
 
--- no page has a workflow of its own
-abbrev pub HasNoWorkflow : Forest Body → Type 0
-HasNoWorkflow tree = AllPages (λ id slug body. body.workflow ≡ None) tree
-
 -- no page has a moderation
 abbrev pub HasNoModeration : Forest Body → Type 0
 HasNoModeration tree = AllPages (λ id slug body. body.moderation ≡ None) tree
 
--- What no command makes yet is not there: a page's workflow or its moderation, a task, a workflow.
-pub record HasNoneYet (part : TreePart) : Type 0 where
-  pub no_page_workflow : HasNoWorkflow part.tree
-  pub no_moderation : HasNoModeration part.tree
-  pub no_task : part.tasks ≡ []
-  pub no_workflow : part.workflows ≡ []
-
 -- The tree part of a world that is reached.
 pub record IsReachedPart (part : TreePart) : Type 0 where
   pub sound : IsSoundPart part
-  pub none_yet : HasNoneYet part
 
 -- A world that is reached.
 pub record IsReached (world : World) : Type 0 where
   pub sound : IsSound world
-  pub none_yet : HasNoneYet world.part
 
 -- whether the user owns the page
 abbrev pub is_owner : Forest Body → ℕ → ℕ → Bool

@@ -1,16 +1,15 @@
 -- The step: what one entry does to the world. Rules are tried in their order; a command that none
 -- of them refuses has its effect, and then the desks go that are lost in the world after it.
-use Rattle.std.specs.Prelude.{ℕ, Bool, true, false, not, ◌==◌, ◌&&◌, List, [], ◌∷◌, map, Option, Some, None, Result, Ok, Err, if◌then◌else◌}
+use Rattle.std.specs.Prelude.{ℕ, ◌==◌, ◌&&◌, List, [], ◌∷◌, map, Option, Some, None, Result, Ok, Err, if◌then◌else◌}
 use Rattle.site_types.specs.Content.{ContentValue}
 use Rattle.site_types.specs.declared.command.Command.{Command}
 use Rattle.site_types.specs.declared.command.Command.TheVariants as commands
 use Rattle.site_types.specs.declared.entry.Entry.{Entry}
 use Rattle.site_types.specs.declared.refusal.Refusal.{Refusal}
-use Rattle.site_types.specs.declared.refusal.Refusal.TheVariants.{NothingNew}
 use Rattle.site_types.specs.declared.reply.Reply.{Reply}
 use Rattle.site_types.specs.declared.reply.Reply.TheVariants.{Done}
 use Rattle.site_model.specs.World.{World, TreePart, Desk, Deed, Effect}
-use Rattle.site_model.specs.Rules.{refused_if, first_of}
+use Rattle.site_model.specs.Rules.{first_of}
 use Rattle.site_model.specs.Front.{front_rules}
 use Rattle.site_model.specs.Create.{create_rules, create, plain_deed}
 use Rattle.site_model.specs.Moves.{move_rules, move}
@@ -26,40 +25,6 @@ use Rattle.site_model.specs.Moderating.{submit_rules, submit, not_moderated, app
 use Rattle.site_model.specs.Tasks.{task_rules, define_task, workflow_rules, define_workflow, assign_rules, assign}
 use Rattle.site_model.specs.Ticks.{tick_rules, tick}
 use Rattle.site_model.specs.Publishing.{publish_rules, publish, unpublish_rules, unpublish, unschedule_rules, unschedule, lock_rules, lock, unlock_rules, unlock, purge_rules, purge}
-
--- The commands that are built so far. Each command that a request can ask for is built, so that no
--- request hears that its command is not: what is not built yet has no route to it, and the step
--- refuses it.
-abbrev pub is_built : Command → Bool
-is_built (commands.Create parent slug content) = true
-is_built (commands.Move page target position) = true
-is_built (commands.Delete page) = true
-is_built (commands.SetSlug page slug) = true
-is_built (commands.Alias source parent slug) = true
-is_built (commands.Detach page) = true
-is_built (commands.Copy page parent slug deep) = true
-is_built (commands.OpenDesk page) = true
-is_built (commands.SaveDesk page content) = true
-is_built (commands.ShutDesk page) = true
-is_built (commands.File page go_live expire) = true
-is_built (commands.Publish page) = true
-is_built (commands.Unpublish page) = true
-is_built (commands.Unschedule page) = true
-is_built (commands.Lock page) = true
-is_built (commands.Unlock page) = true
-is_built (commands.Purge page) = true
-is_built (commands.DefineTask groups) = false
-is_built (commands.DefineWorkflow tasks) = false
-is_built (commands.Assign page workflow) = false
-is_built (commands.Submit page) = false
-is_built (commands.Approve page) = false
-is_built (commands.Reject page) = false
-is_built (commands.Cancel page) = false
-is_built (commands.DefineUser superuser digest) = true
-is_built commands.DefineGroup = true
-is_built (commands.Member user group on) = true
-is_built (commands.Grant group page permission on) = true
-is_built commands.Tick = true
 
 -- The command's own rules, from the seventh on, in the world before it; `desk` is the caller's own
 -- text of the page, where the caller has a desk there.
@@ -141,14 +106,10 @@ effect part desk now caller (commands.Grant group page permission on) =
     set_grant part now group page permission on
 effect part desk now caller commands.Tick = tick part now
 
--- why a command is refused: by the first six rules, as it is not built, or by a rule of its own
+-- why a command is refused: by the first six rules, or by a rule of its own
 abbrev pub refusal_of : TreePart → Option ContentValue → ℕ → ℕ → Command → Option Refusal
 refusal_of part desk now caller command =
-    first_of
-    (front_rules part caller command
-    ∷ refused_if (not (is_built command)) NothingNew
-    ∷ rules part desk now caller command
-    ∷ [])
+    first_of (front_rules part caller command ∷ rules part desk now caller command ∷ [])
 
 -- what a command comes to that no rule refuses, or the refusal
 abbrev pub unless_refused : {Made : Type 0} → Option Refusal → Made → Result Made Refusal

@@ -1,6 +1,6 @@
 //! Laws of the world. Each is a function that does nothing: its contract is the law.
-ghost use Rattle.site_model.specs.Laws.{NewWorldIsReached, StepByKeepsReached, OwnTextFits, StepKeepsReached, StepKeepsSound, StepIsSettled, DesksStay, UntouchedStays, TouchedAlone, SuperusersMayAll, HeldByWalks, EditNeedUnmoderated, DeletionAtOnce, CreationKeepsTheRest};
-ghost use Rattle.site_model.specs.LosingLaws.{EndedAre, EndsOwn, EndsNone, DeletionEndsAll, LockEndsOthers, PublishEndsNone, StaysByMembers, MemberEnds, StaysByGrants, GrantEnds, MovedAbove, MovedStay, MoveEnds};
+ghost use Rattle.site_model.specs.Laws.{NewWorldIsReached, StepByKeepsReached, OwnTextFits, StepKeepsReached, StepKeepsSound, StepIsSettled, DesksStay, UntouchedStays, TouchedAlone, SuperusersMayAll, HeldByWalks, EditNeedUnmoderated, NearestIsGiven, ModerationNames, SubmissionHasPlace, DeletionAtOnce, CreationKeepsTheRest};
+ghost use Rattle.site_model.specs.LosingLaws.{EndedAre, EndsOwn, EndsNone, DeletionEndsAll, LockEndsOthers, PublishEndsNone, SubmitEnds, ApproveEnds, RejectEnds, CancelEnds, PublishEnds, StaysByMembers, MemberEnds, StaysByGrants, GrantEnds, MovedAbove, MovedStay, MoveEnds};
 
 /// The world of a new site is one that is reached.
 pub fn new_world_is_reached()
@@ -62,6 +62,21 @@ pub fn edit_need_unmoderated()
     ensures { EditNeedUnmoderated }
 {}
 
+/// In a sound world the nearest workflow of a page is there.
+pub fn nearest_is_given()
+    ensures { NearestIsGiven }
+{}
+
+/// In a sound world the moderation of a page names what is there.
+pub fn moderation_names()
+    ensures { ModerationNames }
+{}
+
+/// If the first six rules do not refuse a submission, a moderation begins or goes on.
+pub fn submission_has_place()
+    ensures { SubmissionHasPlace }
+{}
+
 /// What a creation does not name stays as it was.
 pub fn creation_keeps_the_rest()
     ensures { CreationKeepsTheRest }
@@ -95,6 +110,31 @@ pub fn lock_ends_others()
 /// To publish a page ends no desk where no page has a moderation.
 pub fn publish_ends_none()
     ensures { PublishEndsNone }
+{}
+
+/// A submission ends the desk on its page, if it does not stay by what is left of the moderation.
+pub fn submit_ends()
+    ensures { SubmitEnds }
+{}
+
+/// So does an approval.
+pub fn approve_ends()
+    ensures { ApproveEnds }
+{}
+
+/// So does a rejection.
+pub fn reject_ends()
+    ensures { RejectEnds }
+{}
+
+/// So does a moderation that is given up.
+pub fn cancel_ends()
+    ensures { CancelEnds }
+{}
+
+/// To publish a page ends the desk on it, if it does not stay without the moderation.
+pub fn publish_ends()
+    ensures { PublishEnds }
 {}
 
 /// After a membership changed, a desk stays by the memberships alone.

@@ -4,3 +4,5 @@
 
 #[cfg(test)]
 mod new_tree;
+#[cfg(test)]
+mod workflows;

@@ -172,6 +172,7 @@ module _ (part : worlds.TreePart) (now caller page : ℕ) (sound : IsSoundPart p
           (new_fit part moment caller aliases part.next_revision part.revisions
           sound.revisions.revision_ids);
       people = tt;
+      flows = tt;
     }
 
     -- it leads to those of the world after it, where it ends these desks

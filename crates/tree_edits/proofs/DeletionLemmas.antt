@@ -100,7 +100,7 @@ deletion_planned kept room part desk now caller page removed gone shut left time
       can = record {
         ready = same_ready kept room part same asked.ready;
         right = record {
-          step = ends_step part desk now caller (Delete page) after reply sound asked.front refl
+          step = ends_step part desk now caller (Delete page) after reply sound asked.front
               (delete_own part desk now caller page ∙ clear) (delete_desk page)
               (delete_done part desk now caller page
               ∙ ap (λ (one : TreePart). plain_deed one reply)
@@ -125,6 +125,7 @@ deletion_planned kept room part desk now caller page removed gone shut left time
           rows = omega arith;
           revisions = spare;
           people = omega arith;
+          flows = omega arith;
           desks = omega arith;
         };
       };

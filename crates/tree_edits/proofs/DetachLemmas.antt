@@ -156,7 +156,6 @@ module _ (kept : TreePart) (part : worlds.TreePart) (desk : Option ContentValue)
   quiet : IsQuiet part desk now caller (Detach page) after Done
   quiet =
       let ends = detach_quiet page in record {
-        built = refl;
         clear = detach_own part desk now caller page ∙ clear;
         own = detach_desk page;
         done = detach_done part desk now caller page;
@@ -194,13 +193,20 @@ module _ (kept : TreePart) (part : worlds.TreePart) (desk : Option ContentValue)
       let comes = one_comes part revision refl sound.revisions.revision_ids in
       quiet_planned kept part desk now caller (Detach page) after Done asked quiet room Done change
       same refl
-      (record { tree = tt; bodies = (there, tt); gone = tt; revisions = comes.fit; people = tt })
+      (record {
+        tree = tt;
+        bodies = (there, tt);
+        gone = tt;
+        revisions = comes.fit;
+        people = tt;
+        flows = tt;
+      })
       (lists_are (left_by (quiet_plan Done change) (lists_of part)) (lists_of left)
       (sym (rebodied_rows page (detached_body part.tree time part.next_revision) kept_body.0 body
       part.tree sound.pages.distinct kept_body.1
       (ap (detached_body part.tree time part.next_revision) at)))
       comes.all_are (quiet_people (people_of part)) refl refl refl refl refl refl)
-      (omega arith) shelf (omega arith)
+      (omega arith) shelf (omega arith) (omega arith)
 
   -- so it is of the plan that is built
   pub detach_planned : (room : TreePart) (number : ℕ) (plan : Plan) → IsSame kept room →

@@ -88,7 +88,7 @@ module _ (kept : TreePart) (part : worlds.TreePart) (desk : Option ContentValue)
       ≡ Ok (left, ending reply ended)
   step_is =
       ends_step part desk now caller (Move page target position) after reply
-      asked.ready.reached.sound asked.front refl
+      asked.ready.reached.sound asked.front
       (move_own part desk now caller page target position ∙ clear)
       (move_desk page target position) (move_done part desk now caller page target position) refl
       ended
@@ -223,6 +223,7 @@ module _ (kept : TreePart) (part : worlds.TreePart) (desk : Option ContentValue)
                   gone = tt;
                   revisions = tt;
                   people = tt;
+                  flows = tt;
                 };
                 opened = tt;
               };
@@ -239,6 +240,7 @@ module _ (kept : TreePart) (part : worlds.TreePart) (desk : Option ContentValue)
               rows = spare;
               revisions = omega arith;
               people = omega arith;
+              flows = omega arith;
               desks = omega arith;
             };
           };

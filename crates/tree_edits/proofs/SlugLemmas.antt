@@ -81,7 +81,7 @@ module _ (kept : TreePart) (part : worlds.TreePart) (desk : Option ContentValue)
   step_is =
       let quiet = slug_quiet page slug in
       quiet_step part desk now caller (SetSlug page slug) after reply asked.ready.reached.sound
-      asked.front refl (slug_own part desk now caller page slug ∙ clear) (slug_desk page slug)
+      asked.front (slug_own part desk now caller page slug ∙ clear) (slug_desk page slug)
       (slug_done part desk now caller page slug) refl quiet.0 quiet.1
 
   -- the tree after it is sound
@@ -150,6 +150,7 @@ module _ (kept : TreePart) (part : worlds.TreePart) (desk : Option ContentValue)
       gone = tt;
       revisions = tt;
       people = tt;
+      flows = tt;
     }
 
     -- it leads to those of the world after it
@@ -203,6 +204,7 @@ module _ (kept : TreePart) (part : worlds.TreePart) (desk : Option ContentValue)
               rows = spare;
               revisions = omega arith;
               people = omega arith;
+              flows = omega arith;
               desks = omega arith;
             };
           };

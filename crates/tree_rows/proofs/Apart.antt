@@ -1,11 +1,11 @@
 -- Pages with distinct ids: what is not there is not found, cut or grafted to.
-use Rattle.std.proofs.Common.{◌≡◌, ◌≤◌, ℕ, Bool, true, false, cond, List, [], ◌∷◌, ◌++◌, Option, Some, nat_eq, ◌||◌, refl, sym, subst, arith}
-use Rattle.std.specs.List.{AllByRecursion, IsDistinct}
+use Rattle.std.proofs.Common.{◌≡◌, ℕ, Bool, true, false, cond, List, [], ◌∷◌, ◌++◌, Option, Some, nat_eq, ◌||◌, refl, sym, subst, arith}
+use Rattle.std.specs.List.{AllByRecursion}
 use Rattle.std.proofs.lemmas.Bool.Decides.{nat_tests}
-use Rattle.page_tree.specs.Tree.{Forest, bare, grown, Place, AllIds, has_page, node_of, kids_of, without, graft, AreRising, ids_of, HasDistinctIds}
+use Rattle.page_tree.specs.Tree.{Forest, bare, grown, Place, AllIds, has_page, node_of, kids_of, without, graft}
 use Rattle.page_tree.specs.Rows.{Row, rows_below, child_url}
-use Rattle.page_tree.proofs.RowLemmas.{AllIds-weaker, AllIds-ids_of}
-use Rattle.page_store.proofs.AllLemmas.{All-append, All-weaker, All-both, All-always}
+use Rattle.page_tree.proofs.RowLemmas.{AllIds-weaker}
+use Rattle.page_store.proofs.AllLemmas.{All-append}
 pub use Rattle.page_tree.proofs.ApartLemmas.{Lacks, AreApart, AreApart-distinct, rows_ids}
 pub use Rattle.tree_model.proofs.SiblingLemmas.{AreRising-without}
 

@@ -1,10 +1,10 @@
 -- The rows of a page and of all below it stand together among the rows of a tree.
-use Rattle.std.proofs.Common.{◌≡◌, ◌<◌, ◌+◌, ◌-◌, None, ℕ, Bool, true, false, cond, List, [], ◌∷◌, ◌++◌, map, Option, Some, nat_eq, ◌||◌, refl, sym, ap, ◌∙◌, subst, arith, append_assoc}
+use Rattle.std.proofs.Common.{◌≡◌, ◌<◌, ◌+◌, ℕ, Bool, true, false, List, [], ◌∷◌, ◌++◌, Option, Some, nat_eq, ◌||◌, refl, sym, ap, ◌∙◌, subst, arith, append_assoc}
 use Rattle.std.specs.List.{AllByRecursion}
 use Rattle.std.proofs.lemmas.Bool.Decides.{nat_tests}
 use Rattle.std.proofs.lemmas.List.{append-nil, map-append}
-use Rattle.page_tree.specs.Tree.{Forest, bare, grown, Place, AreRising, AllIds, has_page, last_step, node_of, kids_of, or_else, without, put, graft}
-use Rattle.page_tree.specs.Walk.{Visit, kid_count, walk, first_walk, extended, path_of}
+use Rattle.page_tree.specs.Tree.{Forest, bare, grown, Place, AreRising, AllIds, has_page, last_step, node_of, kids_of, without, put, graft}
+use Rattle.page_tree.specs.Walk.{kid_count, walk, path_of}
 use Rattle.page_tree.specs.Rows.{Row, rows_below, child_url, is_parent}
 use Rattle.page_tree.proofs.RowLemmas.{AllIds-weaker}
 use Rattle.page_tree.proofs.WalkLemmas.{walk-absent}

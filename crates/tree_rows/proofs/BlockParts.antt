@@ -1,19 +1,11 @@
 -- Lemmas for the block of rows of a page: parents, counts of kids, walks.
-use Rattle.std.proofs.Common.{◌≡◌, ◌<◌, ◌+◌, ◌-◌, None, ℕ, Bool, true, false, cond, List, [], ◌∷◌, ◌++◌, map, Option, Some, nat_eq, ◌||◌, refl, sym, ap, ◌∙◌, subst, arith, append_assoc}
+use Rattle.std.proofs.Common.{◌≡◌, ◌+◌, ◌-◌, None, ℕ, Bool, true, false, cond, List, [], ◌∷◌, map, Option, Some, nat_eq, refl, ap, arith}
 use Rattle.std.specs.List.{AllByRecursion}
 use Rattle.std.proofs.lemmas.Bool.Decides.{nat_tests}
-use Rattle.std.proofs.lemmas.List.{append-nil, map-append}
-use Rattle.page_tree.specs.Tree.{Forest, bare, grown, Place, AreRising, AllIds, has_page, last_step, node_of, kids_of, or_else, without, put, graft}
-use Rattle.page_tree.specs.Walk.{Visit, kid_count, walk, first_walk, extended, path_of}
-use Rattle.page_tree.specs.Rows.{Row, rows_below, child_url, is_parent}
-use Rattle.page_tree.proofs.RowLemmas.{AllIds-weaker}
-use Rattle.page_tree.proofs.WalkLemmas.{walk-absent}
-use Rattle.page_store.specs.Search.{begins}
-use Rattle.page_store.proofs.AllLemmas.{All-append, All-weaker}
+use Rattle.page_tree.specs.Tree.{Forest, bare, grown, Place, or_else, put, graft}
+use Rattle.page_tree.specs.Walk.{Visit, kid_count, first_walk, extended}
+use Rattle.page_tree.specs.Rows.{Row, is_parent}
 use Rattle.tree_rows.specs.Cuts.{lower_row, lower_count, with_count}
-use Rattle.tree_rows.proofs.Apart.{Lacks, AreApart, kids_of-lacks, node_of-lacks, without-lacks, graft-lacks, lacks_after, lacks_below, rows_parents, rows_ids, AllIds-turned}
-use Rattle.tree_rows.proofs.Lists.{all_parts}
-use Rattle.tree_rows.proofs.Paths.{begins-other_step, begins-longer, rows_go_on, earlier_out}
 
 -- one where the test passes, and else none
 abbrev pub one_if : Bool → ℕ

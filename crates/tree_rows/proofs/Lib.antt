@@ -5,3 +5,5 @@ pub mod BlockParts
 pub mod Block
 pub mod SiteTree
 pub mod SubtreeLemmas
+pub mod Above
+pub mod Up

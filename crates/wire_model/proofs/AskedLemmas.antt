@@ -1,17 +1,18 @@
--- What holds of each command that a body can ask for, by a form of the table of routes, holds of
--- each command that a request can ask for.
-use Rattle.std.proofs.Common.{◌≡◌, ◌&&◌, ℕ, Bool, true, false, cond, bytes_eq, List, [], ◌∷◌, length, codes, Option, Some, None, Result, Ok, refl, subst}
-use Rattle.std.specs.Prelude.{IfSome, option_map, option_and_then, unwrap_or}
-use Rattle.std.specs.Option.{option_or}
-use Rattle.std.specs.List.{list_all}
+-- What holds of each command that a body can ask for by some form holds of each command that a
+-- request can ask for.
+use Rattle.std.proofs.Common.{◌≡◌, ℕ, Bool, true, false, cond, List, [], ◌∷◌, length, codes, Option, Some, None, Result, Ok, subst}
+use Rattle.std.specs.Prelude.{IfSome, option_map, option_and_then}
 use Rattle.serde_json.specs.Data.{Data}
 use Rattle.serde_json.specs.Find.{get}
 use Rattle.site_ids.specs.Moment.{IsMoment}
 use Rattle.site_ids.specs.Slug.{IsSlug}
 use Rattle.site_ids.specs.declared.digest.TheConstants.{DIGEST_BYTES}
+use Rattle.site_ids.specs.declared.ids.TheConstants.{LAST_TASK_ID}
+use Rattle.site_model.specs.Laws.{FitsList}
+use Rattle.site_model.specs.Sound.{NumbersRise}
 use Rattle.site_types.specs.Content.{ContentValue, FitsLimits}
 use Rattle.site_types.specs.declared.command.Command.{Command}
-use Rattle.site_types.specs.declared.command.Command.TheVariants.{Create, Move, SetSlug, Alias, Copy, SaveDesk, File, DefineUser, DefineGroup, Member, Grant, Tick}
+use Rattle.site_types.specs.declared.command.Command.TheVariants.{Create, Move, SetSlug, Alias, Copy, SaveDesk, File, DefineUser, DefineGroup, Member, Grant, Tick, DefineTask, DefineWorkflow, Assign}
 use Rattle.site_types.specs.declared.permission.Permission.{Permission}
 use Rattle.site_types.specs.declared.position.Position.{Position}
 use Rattle.http_model.specs.declared.method.Method.{Method}
@@ -27,13 +28,12 @@ use Rattle.wire_model.specs.declared.form.CommandForm.TheVariants as forms
 use Rattle.wire_model.specs.declared.form.PageVerb.{PageVerb}
 use Rattle.wire_model.specs.declared.form.ReadForm.{ReadForm}
 use Rattle.wire_model.specs.declared.form.ReadForm.TheVariants as reads
-use Rattle.wire_model.specs.Tables.{named}
-use Rattle.wire_model.specs.Forms.{id_at, slug_at, content_at, position_at, permission_at, truth_at, user_at, group_at, digest_at, creation_of, move_of, slug_change_of, alias_of, copy_of, saving_of, filing_of, command_on, user_definition_of, membership_of, grant_asked_of, command_in, command_asked, data_of}
+use Rattle.wire_model.specs.Forms.{id_at, slug_at, content_at, position_at, permission_at, truth_at, user_at, group_at, digest_at, creation_of, move_of, slug_change_of, alias_of, copy_of, saving_of, filing_of, command_on, user_definition_of, membership_of, grant_asked_of, groups_at, ids_at, workflow_at, assignment_of, command_in, command_asked, data_of}
 use Rattle.wire_model.specs.Times.{time_at}
 use Rattle.wire_model.specs.Routes.{Route, command_routes, read_routes, command_route, read_route, has_part_after, after_front, read_at, command_at, is_api, beside, id_written, closed_path, or_fault, by_post, by_get, read_call, call_on, route_of, call_of}
 use Rattle.wire_model.specs.Routes as routes
 use Rattle.wire_model.proofs.TimeLemmas.{AreTimes, member_time}
-use Rattle.wire_model.proofs.ReadLemmas.{AreSlugs, AreDigests, member_slug, member_content, read_digest}
+use Rattle.wire_model.proofs.ReadLemmas.{AreSlugs, AreDigests, AreGroups, member_slug, member_content, read_digest, member_ids, read_groups}
 
 -- a command, if there is one, is one of these
 abbrev pub AreSuch : (Command → Type 0) → Option Command → Type 0
@@ -44,22 +44,10 @@ abbrev AsksSuch : (Command → Type 0) → Result Call RouteFault → Type 0
 AsksSuch Such (Ok (Run command)) = Such command
 AsksSuch Such _ = Unit {0}
 
--- whether a form, if there is one, passes a test
-abbrev pub passes : (CommandForm → Bool) → Option CommandForm → Bool
-passes test (Some form) = test form
-passes test None = true
-
--- the form of a route of commands passes a test
-abbrev RoutePasses : (CommandForm → Bool) → Route → Type 0
-RoutePasses test (routes.command form) = test form ≡ true
-RoutePasses test (routes.read_named form text) = Unit {0}
-RoutePasses test routes.unbuilt = Unit {0}
-RoutePasses test routes.nowhere = Unit {0}
-RoutePasses test routes.public_page = Unit {0}
-
 -- What is to be shown of a fact of commands: that it holds of each kind of command that a body can
--- ask for by a form that passes a test. Its slug, its content, its moments and its digest fit.
-pub record HoldsOfForms (Such : Command → Type 0) (test : CommandForm → Bool) : Type 0 where
+-- ask for. Its slug, its content, its moments and its digest fit, its groups rise, and of groups and
+-- tasks it has 1 to 16.
+pub record HoldsOfForms (Such : Command → Type 0) : Type 0 where
   pub creation : (parent : ℕ) (slug : List ℕ) (content : ContentValue) → IsSlug slug →
       FitsLimits content → Such (Create parent slug content)
   pub moving : (page target : ℕ) (position : Position) → Such (Move page target position)
@@ -72,8 +60,7 @@ pub record HoldsOfForms (Such : Command → Type 0) (test : CommandForm → Bool
       Such (SaveDesk page content)
   pub filing : (page : ℕ) (go_live expire : Option ℕ) → IfSome go_live IsMoment →
       IfSome expire IsMoment → Such (File page go_live expire)
-  pub on_page : (verb : PageVerb) (page : ℕ) → test (forms.OnPage verb) ≡ true →
-      Such (command_on verb page)
+  pub on_page : (verb : PageVerb) (page : ℕ) → Such (command_on verb page)
   pub user : (digest : List ℕ) (superuser : Bool) → length digest ≡ DIGEST_BYTES →
       Such (DefineUser superuser digest)
   pub group : Such DefineGroup
@@ -81,87 +68,9 @@ pub record HoldsOfForms (Such : Command → Type 0) (test : CommandForm → Bool
   pub granting : (group page : ℕ) (permission : Permission) (on : Bool) →
       Such (Grant group page permission on)
   pub ticking : Such Tick
-
--- the first of two that hold together holds
-first_holds : (first second : Bool) → (first && second) ≡ true → first ≡ true
-first_holds true second is = refl
-first_holds false second is = absurd (cc)
-
--- the second of two that hold together holds
-second_holds : (first second : Bool) → (first && second) ≡ true → second ≡ true
-second_holds true second is = is
-second_holds false second is = absurd (cc)
-
-module _ (test : CommandForm → Bool) where
-  -- the route of a form that passes is one whose form passes
-  route_passes : (form : Option CommandForm) → passes test form ≡ true →
-      RoutePasses test (command_route form)
-  route_passes (Some form) is = is
-  route_passes None is = tt
-
-  -- the route that a table of forms that pass has for a path passes
-  command_passes : (table : List (List ℕ × Option CommandForm)) (path : List ℕ) →
-      list_all (λ row. passes test row.1) table ≡ true →
-      IfSome (command_at table path) (RoutePasses test)
-  command_passes [] path all = tt
-  command_passes (row ∷ table) path all =
-      by (bytes_eq path row.0)
-      (route_passes row.1
-      (first_holds (passes test row.1) (list_all (λ row. passes test row.1) table) all))
-      (command_passes table path
-      (second_holds (passes test row.1) (list_all (λ row. passes test row.1) table) all))
-    where
-      by : (v : Bool) → RoutePasses test (command_route row.1) →
-          IfSome (command_at table path) (RoutePasses test) →
-          IfSome (option_map command_route (cond v (Some row.1) (named table path)))
-          (RoutePasses test)
-      by true here later = here
-      by false here later = later
-
-  -- a route that reads has no form of commands
-  reading_passes : (text : List ℕ) (form : Option ReadForm) →
-      RoutePasses test (read_route text form)
-  reading_passes text (Some form) = tt
-  reading_passes text None = tt
-
-  -- so the route of reads of a path passes
-  read_passes : (table : List (List ℕ × Option ReadForm)) (path : List ℕ) →
-      IfSome (read_at table path) (RoutePasses test)
-  read_passes [] path = tt
-  read_passes (row ∷ table) path =
-      by (has_part_after row.0 path) (reading_passes (after_front row.0 path) row.1)
-      (read_passes table path)
-    where
-      by : (v : Bool) → RoutePasses test (read_route (after_front row.0 path) row.1) →
-          IfSome (read_at table path) (RoutePasses test) →
-          IfSome (cond v (Some (read_route (after_front row.0 path) row.1)) (read_at table path))
-          (RoutePasses test)
-      by true here later = here
-      by false here later = later
-
-  -- a path that is no route of the API has no form
-  beside_passes : (path : List ℕ) → RoutePasses test (beside path)
-  beside_passes path = by (is_api path)
-    where
-      by : (v : Bool) → RoutePasses test (cond v routes.nowhere routes.public_page)
-      by true = tt
-      by false = tt
-
-  -- the first of routes that pass is one that passes
-  first_passes : (reading running : Option Route) (other : Route) →
-      IfSome reading (RoutePasses test) → IfSome running (RoutePasses test) →
-      RoutePasses test other → RoutePasses test (unwrap_or (option_or reading running) other)
-  first_passes (Some reading) running other is runs rest = is
-  first_passes None (Some running) other is runs rest = runs
-  first_passes None None other is runs rest = rest
-
-  -- if each form of the table of routes passes, so does the route of each path
-  all_pass : list_all (λ row. passes test row.1) command_routes ≡ true → (path : List ℕ) →
-      RoutePasses test (route_of path)
-  unfolding route_of
-  all_pass all path =
-      first_passes (read_at read_routes path) (command_at command_routes path) (beside path)
-      (read_passes read_routes path) (command_passes command_routes path all) (beside_passes path)
+  pub task : (groups : List ℕ) → FitsList groups → NumbersRise 0 groups → Such (DefineTask groups)
+  pub workflow : (tasks : List ℕ) → FitsList tasks → Such (DefineWorkflow tasks)
+  pub assigning : (page : ℕ) (workflow : Option ℕ) → Such (Assign page workflow)
 
 -- what is asked for only where a test holds is one of these
 such_if : (Such : Command → Type 0) (holds : Bool) (asked : Option Command) →
@@ -169,7 +78,7 @@ such_if : (Such : Command → Type 0) (holds : Bool) (asked : Option Command) �
 such_if Such true asked is = is
 such_if Such false asked is = tt
 
-module _ (Such : Command → Type 0) (test : CommandForm → Bool) (hold : HoldsOfForms Such test) where
+module _ (Such : Command → Type 0) (hold : HoldsOfForms Such) where
   -- a creation is one of these
   creation_is : (parent : Option ℕ) (slug : Option (List ℕ)) (content : Option ContentValue) →
       AreSlugs slug → IfSome content FitsLimits → AreSuch Such (creation_of parent slug content)
@@ -229,10 +138,10 @@ module _ (Such : Command → Type 0) (test : CommandForm → Bool) (hold : Holds
   filing_is None go_live expire live ends = tt
 
   -- so is a command on a page
-  page_is : (verb : PageVerb) (page : Option ℕ) → test (forms.OnPage verb) ≡ true →
+  page_is : (verb : PageVerb) (page : Option ℕ) →
       AreSuch Such (option_map (command_on verb) page)
-  page_is verb (Some page) passed = hold.on_page verb page passed
-  page_is verb None passed = tt
+  page_is verb (Some page) = hold.on_page verb page
+  page_is verb None = tt
 
   -- so is the definition of a user
   user_is : (digest : Option (List ℕ)) (superuser : Option Bool) → AreDigests digest →
@@ -259,45 +168,63 @@ module _ (Such : Command → Type 0) (test : CommandForm → Bool) (hold : Holds
   grant_is (Some group) None permission on = tt
   grant_is None page permission on = tt
 
-  -- what an object asks for by a form that passes is one of these
-  form_is : (form : CommandForm) (value : Data) → test form ≡ true →
-      AreSuch Such (command_in form value)
-  form_is forms.Create value passed =
+  -- so is the definition of a task
+  task_is : (groups : Option (List ℕ)) → AreGroups groups →
+      AreSuch Such (option_map DefineTask groups)
+  task_is (Some groups) are = hold.task groups are.0 are.1
+  task_is None are = tt
+
+  -- so is the definition of a workflow
+  workflow_is : (tasks : Option (List ℕ)) → IfSome tasks FitsList →
+      AreSuch Such (option_map DefineWorkflow tasks)
+  workflow_is (Some tasks) fits = hold.workflow tasks fits
+  workflow_is None fits = tt
+
+  -- so is an assignment
+  assignment_is : (page : Option ℕ) (workflow : Option (Option ℕ)) →
+      AreSuch Such (assignment_of page workflow)
+  assignment_is (Some page) (Some workflow) = hold.assigning page workflow
+  assignment_is (Some page) None = tt
+  assignment_is None workflow = tt
+
+  -- what an object asks for by a form is one of these
+  form_is : (form : CommandForm) (value : Data) → AreSuch Such (command_in form value)
+  form_is forms.Create value =
       such_if Such (has_exactly (codes "content" ∷ codes "parent" ∷ codes "slug" ∷ []) value)
       (creation_of (id_at (codes "parent") value) (slug_at value) (content_at value))
       (creation_is (id_at (codes "parent") value) (slug_at value) (content_at value)
       (member_slug (get (codes "slug") value)) (member_content (get (codes "content") value)))
-  form_is forms.Move value passed =
+  form_is forms.Move value =
       such_if Such (has_exactly (codes "page" ∷ codes "position" ∷ codes "target" ∷ []) value)
       (move_of (id_at (codes "page") value) (id_at (codes "target") value) (position_at value))
       (move_is (id_at (codes "page") value) (id_at (codes "target") value) (position_at value))
-  form_is forms.SetSlug value passed =
+  form_is forms.SetSlug value =
       such_if Such (has_exactly (codes "page" ∷ codes "slug" ∷ []) value)
       (slug_change_of (id_at (codes "page") value) (slug_at value))
       (slug_is (id_at (codes "page") value) (slug_at value)
       (member_slug (get (codes "slug") value)))
-  form_is forms.Alias value passed =
+  form_is forms.Alias value =
       such_if Such (has_exactly (codes "parent" ∷ codes "slug" ∷ codes "source" ∷ []) value)
       (alias_of (id_at (codes "source") value) (id_at (codes "parent") value) (slug_at value))
       (alias_is (id_at (codes "source") value) (id_at (codes "parent") value) (slug_at value)
       (member_slug (get (codes "slug") value)))
-  form_is forms.Copy value passed =
+  form_is forms.Copy value =
       such_if Such
       (has_exactly (codes "deep" ∷ codes "page" ∷ codes "parent" ∷ codes "slug" ∷ []) value)
       (copy_of (id_at (codes "page") value) (id_at (codes "parent") value) (slug_at value)
       (truth_at (codes "deep") value))
       (copy_is (id_at (codes "page") value) (id_at (codes "parent") value) (slug_at value)
       (truth_at (codes "deep") value) (member_slug (get (codes "slug") value)))
-  form_is (forms.OnPage verb) value passed =
+  form_is (forms.OnPage verb) value =
       such_if Such (has_exactly (codes "page" ∷ []) value)
       (option_map (command_on verb) (id_at (codes "page") value))
-      (page_is verb (id_at (codes "page") value) passed)
-  form_is forms.Save value passed =
+      (page_is verb (id_at (codes "page") value))
+  form_is forms.Save value =
       such_if Such (has_exactly (codes "content" ∷ codes "page" ∷ []) value)
       (saving_of (id_at (codes "page") value) (content_at value))
       (saving_is (id_at (codes "page") value) (content_at value)
       (member_content (get (codes "content") value)))
-  form_is forms.File value passed =
+  form_is forms.File value =
       such_if Such
       (has_exactly (codes "expire_at" ∷ codes "go_live_at" ∷ codes "page" ∷ []) value)
       (filing_of (id_at (codes "page") value) (time_at (codes "go_live_at") value)
@@ -305,32 +232,45 @@ module _ (Such : Command → Type 0) (test : CommandForm → Bool) (hold : Holds
       (filing_is (id_at (codes "page") value) (time_at (codes "go_live_at") value)
       (time_at (codes "expire_at") value) (member_time (get (codes "go_live_at") value))
       (member_time (get (codes "expire_at") value)))
-  form_is forms.DefineUser value passed =
+  form_is forms.DefineUser value =
       such_if Such (has_exactly (codes "digest" ∷ codes "superuser" ∷ []) value)
       (user_definition_of (digest_at value) (truth_at (codes "superuser") value))
       (user_is (digest_at value) (truth_at (codes "superuser") value)
       (read_digest (text_at (codes "digest") value)))
-  form_is forms.DefineGroup value passed =
+  form_is forms.DefineGroup value =
       such_if Such (has_exactly [] value) (Some DefineGroup) hold.group
-  form_is forms.Member value passed =
+  form_is forms.Member value =
       such_if Such (has_exactly (codes "group" ∷ codes "on" ∷ codes "user" ∷ []) value)
       (membership_of (user_at value) (group_at value) (truth_at (codes "on") value))
       (member_is (user_at value) (group_at value) (truth_at (codes "on") value))
-  form_is forms.Grant value passed =
+  form_is forms.Grant value =
       such_if Such
       (has_exactly (codes "group" ∷ codes "on" ∷ codes "page" ∷ codes "permission" ∷ []) value)
       (grant_asked_of (group_at value) (id_at (codes "page") value) (permission_at value)
       (truth_at (codes "on") value))
       (grant_is (group_at value) (id_at (codes "page") value) (permission_at value)
       (truth_at (codes "on") value))
-  form_is forms.Tick value passed =
+  form_is forms.Tick value =
       such_if Such (has_exactly [] value) (Some Tick) hold.ticking
+  form_is forms.DefineTask value =
+      such_if Such (has_exactly (codes "groups" ∷ []) value)
+      (option_map DefineTask (groups_at value))
+      (task_is (groups_at value) (read_groups (get (codes "groups") value)))
+  form_is forms.DefineWorkflow value =
+      such_if Such (has_exactly (codes "tasks" ∷ []) value)
+      (option_map DefineWorkflow (ids_at (codes "tasks") LAST_TASK_ID value))
+      (workflow_is (ids_at (codes "tasks") LAST_TASK_ID value)
+      (member_ids LAST_TASK_ID (get (codes "tasks") value)))
+  form_is forms.Assign value =
+      such_if Such (has_exactly (codes "page" ∷ codes "workflow" ∷ []) value)
+      (assignment_of (id_at (codes "page") value) (workflow_at value))
+      (assignment_is (id_at (codes "page") value) (workflow_at value))
 
-  -- what a body asks for by a form that passes is one of these
-  body_is : (form : CommandForm) (found : Option Data) → test form ≡ true →
+  -- what a body asks for by a form is one of these
+  body_is : (form : CommandForm) (found : Option Data) →
       AreSuch Such (option_and_then (command_in form) found)
-  body_is form (Some value) passed = form_is form value passed
-  body_is form None passed = tt
+  body_is form (Some value) = form_is form value
+  body_is form None = tt
 
   -- the command of a call is one of these, if what is asked for is
   call_is : (asked : Option Command) → AreSuch Such asked →
@@ -362,28 +302,25 @@ module _ (Such : Command → Type 0) (test : CommandForm → Bool) (hold : Holds
   get_is methods.Post call is = tt
   get_is methods.Other call is = tt
 
-  -- the command that a request asks for on a route whose form passes is one of these
-  route_is : (route : Route) (request : Request) → RoutePasses test route →
-      AsksSuch Such (call_on route request)
+  -- the command that a request asks for on a route is one of these
+  route_is : (route : Route) (request : Request) → AsksSuch Such (call_on route request)
   unfolding command_asked
-  route_is (routes.command form) request passed =
+  route_is (routes.command form) request =
       post_is request.method
       (or_fault (option_map Run (option_and_then (command_in form) (data_of request.body))) Form)
       (call_is (option_and_then (command_in form) (data_of request.body))
-      (body_is form (data_of request.body) passed))
-  route_is (routes.read_named form text) request passed =
+      (body_is form (data_of request.body)))
+  route_is (routes.read_named form text) request =
       get_is request.method (or_fault (option_map (read_call form) (id_written text)) Form)
       (read_is form (id_written text))
-  route_is routes.unbuilt request passed = tt
-  route_is routes.nowhere request passed = tt
-  route_is routes.public_page request passed =
+  route_is routes.unbuilt request = tt
+  route_is routes.nowhere request = tt
+  route_is routes.public_page request =
       get_is request.method (Ok (Public (closed_path request.path))) tt
 
-  -- if each form of the table of routes passes, each command that a request can ask for is one of
-  -- these
-  pub asked_is : list_all (λ row. passes test row.1) command_routes ≡ true → (request : Request)
-      (command : Command) → call_of request ≡ Ok (Run command) → Such command
+  -- each command that a request can ask for is one of these
+  pub asked_is : (request : Request) (command : Command) → call_of request ≡ Ok (Run command) →
+      Such command
   unfolding call_of
-  asked_is all request command is =
-      subst (AsksSuch Such) is
-      (route_is (route_of request.path) request (all_pass test all request.path))
+  asked_is request command is =
+      subst (AsksSuch Such) is (route_is (route_of request.path) request)

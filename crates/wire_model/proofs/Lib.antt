@@ -2,5 +2,5 @@ pub mod TranscriptLemmas
 pub mod TimeLemmas
 pub mod ReadLemmas
 pub mod AskedLemmas
-pub mod BuiltLemmas
+pub mod RoutedLemmas
 pub mod FitLemmas

@@ -1,20 +1,24 @@
--- What is read from a body fits: a slug is by the rule of slugs, a content within its limits, and a
--- digest has its bytes.
-use Rattle.std.proofs.Common.{◌≡◌, ◌&&◌, ◌==◌, ◌+◌, ◌*◌, ℕ, suc, Bool, true, false, cond, nat_le, List, [], ◌∷◌, length, Option, Some, None, refl, arith}
+-- What is read from a body fits: a slug is by the rule of slugs, a content within its limits, a
+-- digest has its bytes, groups rise, and there are 1 to 16 of groups and tasks.
+use Rattle.std.proofs.Common.{◌≡◌, ◌≤◌, ◌<◌, ◌&&◌, ◌==◌, ◌+◌, ◌*◌, ℕ, suc, Bool, true, false, cond, nat_le, nat_lt, List, [], ◌∷◌, length, Option, Some, None, refl, ap, subst, arith}
 use Rattle.std.specs.Prelude.{IfSome, option_map, option_and_then}
 use Rattle.std.specs.Bool.{then_some}
-use Rattle.std.specs.List.{list_all}
+use Rattle.std.specs.List.{list_all, AllByRecursion}
 use Rattle.std.proofs.lemmas.Bool.Decides.{nat_tests}
-use Rattle.serde_json.specs.Data.{Data}
-use Rattle.serde_json.specs.Find.{as_str}
+use Rattle.serde_json.specs.Data.{Data, Items, no_items, item}
+use Rattle.serde_json.specs.Find.{as_str, as_array}
 use Rattle.site_ids.specs.Slug.{is_slug_byte, IsSlug}
 use Rattle.site_ids.specs.declared.slug.TheConstants.{MAX_SLUG_BYTES}
 use Rattle.site_ids.specs.declared.digest.TheConstants.{DIGEST_BYTES}
 use Rattle.site_types.specs.Content.{ContentValue, FitsLimits}
-use Rattle.json_model.specs.Members.{is_slug, slug_of}
+use Rattle.site_ids.specs.declared.ids.TheConstants.{LAST_GROUP_ID}
+use Rattle.site_model.specs.Laws.{FitsList}
+use Rattle.site_model.specs.Sound.{NumbersRise}
+use Rattle.json_model.specs.Members.{is_slug, slug_of, is_within, whole_of, whole_within, each_of}
 use Rattle.json_model.specs.Content.{content_of}
 use Rattle.json_model.proofs.ContentLemmas.{content_right}
-use Rattle.wire_model.specs.Forms.{hex_digit, hex_bytes, digest_of}
+use Rattle.wire_model.specs.Forms.{hex_digit, hex_bytes, digest_of, ids_of, placed, gathered}
+use Rattle.wire_model.specs.declared.words.TheConstants.{MAX_NAMED_IDS}
 
 -- a text, if there is one, is a slug
 abbrev pub AreSlugs : Option (List ℕ) → Type 0
@@ -103,3 +107,156 @@ tested_digest false text is = tt
 pub read_digest : (text : Option (List ℕ)) → AreDigests (option_and_then digest_of text)
 read_digest (Some text) = tested_digest (length text == 2 * DIGEST_BYTES) text refl
 read_digest None = tt
+
+-- ids that a value is read as, none of which is 0
+abbrev AreIds : Option (List ℕ) → Type 0
+AreIds ids = IfSome ids (λ list. FitsList list × AllByRecursion (λ id. 1 ≤ id) list)
+
+-- a number that is kept within a range is not below its low end
+kept_within : (high : ℕ) (number : Option ℕ) →
+    IfSome (option_and_then (λ n. then_some (is_within 1 high n) n) number) (λ n. 1 ≤ n)
+kept_within high None = tt
+kept_within high (Some number) = tested (is_within 1 high number) refl
+  where
+    tested : (test : Bool) → is_within 1 high number ≡ test →
+        IfSome (then_some test number) (λ n. 1 ≤ n)
+    tested true is =
+        let low = (both_hold (nat_le 1 number) (nat_le number high) is).0 in
+        grind (arith, nat_tests, low)
+    tested false is = tt
+
+-- one more number before numbers of which none is 0
+first_read : (first : Option ℕ) (rest : Option (List ℕ)) → IfSome first (λ n. 1 ≤ n) →
+    IfSome rest (AllByRecursion (λ id. 1 ≤ id)) →
+    IfSome (option_and_then (λ found. option_map (λ more. found ∷ more) rest) first)
+    (AllByRecursion (λ id. 1 ≤ id))
+first_read (Some first) (Some rest) low lows = (low, lows)
+first_read (Some first) None low lows = tt
+first_read None rest low lows = tt
+
+-- none of the ids that items are read as is 0
+each_id : (last : ℕ) (items : Items) →
+    IfSome (each_of (whole_within 1 last) items) (AllByRecursion (λ id. 1 ≤ id))
+each_id last no_items = tt
+each_id last (item first items) =
+    first_read (whole_within 1 last first) (each_of (whole_within 1 last) items)
+    (kept_within last (whole_of first)) (each_id last items)
+
+-- ids of which none is 0 and that are kept if there are 1 to 16 are such ids
+kept_ids : (ids : Option (List ℕ)) → IfSome ids (AllByRecursion (λ id. 1 ≤ id)) →
+    AreIds (option_and_then (λ list. then_some (is_within 1 MAX_NAMED_IDS (length list)) list) ids)
+kept_ids None lows = tt
+kept_ids (Some ids) lows = tested (is_within 1 MAX_NAMED_IDS (length ids)) refl
+  where
+    tested : (test : Bool) → is_within 1 MAX_NAMED_IDS (length ids) ≡ test →
+        AreIds (then_some test ids)
+    tested true is =
+        let sizes =
+        both_hold (nat_le 1 (length ids)) (nat_le (length ids) MAX_NAMED_IDS) is
+        in (
+          record {
+            not_empty = grind (arith, nat_tests, sizes.0);
+            fits = grind (arith, nat_tests, sizes.1);
+          },
+          lows,
+        )
+    tested false is = tt
+
+-- ids that a list is read as
+listed_ids : (last : ℕ) (list : Option Items) →
+    AreIds (option_and_then (λ ids. then_some (is_within 1 MAX_NAMED_IDS (length ids)) ids)
+    (option_and_then (each_of (whole_within 1 last)) list))
+listed_ids last (Some list) =
+    kept_ids (each_of (whole_within 1 last) list) (each_id last list)
+listed_ids last None = tt
+
+-- ids that a member is read as
+found_ids : (last : ℕ) (found : Option Data) → AreIds (option_and_then (ids_of last) found)
+found_ids last (Some value) = listed_ids last (as_array value)
+found_ids last None = tt
+
+-- ids that a member is read as are 1 to 16
+pub member_ids : (last : ℕ) (found : Option Data) →
+    IfSome (option_and_then (ids_of last) found) FitsList
+member_ids last found = fitting (option_and_then (ids_of last) found) (found_ids last found)
+  where
+    fitting : (ids : Option (List ℕ)) → AreIds ids → IfSome ids FitsList
+    fitting (Some ids) are = are.0
+    fitting None are = tt
+
+-- groups, if there are any: 1 to 16 that rise
+abbrev pub AreGroups : Option (List ℕ) → Type 0
+AreGroups groups = IfSome groups (λ list. FitsList list × NumbersRise 0 list)
+
+-- ids after a number that rise, one more than there were
+abbrev RiseBy : ℕ → ℕ → Option (List ℕ) → Type 0
+RiseBy before size ids = IfSome ids (λ list. NumbersRise before list × (length list ≡ size))
+
+-- the first id before others that rise after it
+first_rises : (before first size : ℕ) (more : Option (List ℕ)) → before < first →
+    RiseBy first size more → RiseBy before (suc size) (option_map (λ ids. first ∷ ids) more)
+first_rises before first size (Some more) above rise = ((above, rise.0), ap suc rise.1)
+first_rises before first size None above rise = tt
+
+-- ids that rise with one more at its place still rise
+placed_rise : (before id : ℕ) (ids : List ℕ) → before < id → NumbersRise before ids →
+    RiseBy before (suc (length ids)) (placed id ids)
+placed_rise before id [] above rise = ((above, tt), refl)
+placed_rise before id (first ∷ ids) above rise =
+    by (λ (over : first < id). placed_rise first id ids over rise.1)
+    (nat_lt id first) refl (id == first) refl
+  where
+    by : (first < id → RiseBy first (suc (length ids)) (placed id ids)) →
+        (less : Bool) → nat_lt id first ≡ less → (same : Bool) → (id == first) ≡ same →
+        RiseBy before (suc (suc (length ids)))
+        (cond less (Some (id ∷ first ∷ ids))
+        (cond same None (option_map (λ more. first ∷ more) (placed id ids))))
+    by later true less same is = ((above, (grind (arith, nat_tests, less), rise.1)), refl)
+    by later false less true is = tt
+    by later false less false is =
+        first_rises before first (suc (length ids)) (placed id ids) rise.0
+        (later (grind (arith, nat_tests, less, is)))
+
+-- ids that rise, with others put in, still rise
+gathered_rise : (kept ids : List ℕ) → NumbersRise 0 kept → AllByRecursion (λ id. 1 ≤ id) ids →
+    RiseBy 0 (length kept + length ids) (gathered kept ids)
+gathered_rise kept [] rise lows = (rise, omega arith)
+gathered_rise kept (id ∷ ids) rise lows =
+    by (placed id kept) (placed_rise 0 id kept lows.0 rise)
+    (λ (more : List ℕ) (rises : NumbersRise 0 more). gathered_rise more ids rises lows.1)
+  where
+    sized : (size other : ℕ) (more : Option (List ℕ)) → size ≡ other → RiseBy 0 size more →
+        RiseBy 0 other more
+    sized size other more is rises = subst (λ n. RiseBy 0 n more) is rises
+
+    by : (one_more : Option (List ℕ)) → RiseBy 0 (suc (length kept)) one_more →
+        ((more : List ℕ) → NumbersRise 0 more →
+        RiseBy 0 (length more + length ids) (gathered more ids)) →
+        RiseBy 0 (length kept + suc (length ids))
+        (option_and_then (λ more. gathered more ids) one_more)
+    by (Some more) rises later =
+        sized (length more + length ids) (length kept + suc (length ids)) (gathered more ids)
+        (omega (arith, rises.1)) (later more rises.0)
+    by None rises later = tt
+
+-- groups that a list of ids is gathered to
+gathered_groups : (ids : Option (List ℕ)) → AreIds ids →
+    AreGroups (option_and_then (gathered []) ids)
+gathered_groups None are = tt
+gathered_groups (Some ids) are = by (gathered [] ids) (gathered_rise [] ids tt are.1)
+  where
+    by : (groups : Option (List ℕ)) → RiseBy 0 (0 + length ids) groups → AreGroups groups
+    by (Some groups) rises = (
+      record {
+        not_empty = omega (arith, rises.1, are.0.not_empty);
+        fits = omega (arith, rises.1, are.0.fits);
+      },
+      rises.0,
+    )
+    by None rises = tt
+
+-- groups that a member is read as are 1 to 16 and rise
+pub read_groups : (found : Option Data) →
+    AreGroups (option_and_then (gathered []) (option_and_then (ids_of LAST_GROUP_ID) found))
+read_groups found =
+    gathered_groups (option_and_then (ids_of LAST_GROUP_ID) found) (found_ids LAST_GROUP_ID found)

@@ -11,7 +11,6 @@ use Rattle.site_types.specs.declared.reply.Reply.{Reply}
 use Rattle.site_history.specs.History.{Tally, Item, tick, tick_all, AllMayStand, decide}
 use Rattle.site_model.specs.World.{World}
 use Rattle.site_model.specs.Desks.{text_at}
-use Rattle.site_model.specs.Step.{is_built}
 use Rattle.http_model.specs.Requests.{Request, whole, IsFront}
 use Rattle.http_model.proofs.FrontLemmas.{one_front}
 use Rattle.http_model.proofs.FinalLemmas.{final_stays}
@@ -38,12 +37,11 @@ decided_legal tally entry (Ok reply) is next = ((next, is), tt)
 decided_legal tally entry (Err refusal) is next = tt
 
 -- a command is added legally
-run_legal : (tally : Tally World) (user moment : ℕ) (command : Command) (built : Bool) →
-    is_built command ≡ built → AddsLegal tally (run tally user moment command)
-run_legal tally user moment command true is =
+run_legal : (tally : Tally World) (user moment : ℕ) (command : Command) →
+    AddsLegal tally (run tally user moment command)
+run_legal tally user moment command =
     let entry : Entry = entry_of user moment command (tally.number + 1) in
-    rw is (decided_legal tally entry (decide decider tally entry) refl refl)
-run_legal tally user moment command false is = rw is tt
+    decided_legal tally entry (decide decider tally entry) refl refl
 
 -- a card adds nothing
 card_legal : (tally : Tally World) (id : ℕ) (card : Option Card) →
@@ -70,7 +68,7 @@ public_legal tally None = tt
 -- a call by a user is added legally
 called_legal : (tally : Tally World) (user moment : ℕ) (call : Call) →
     AddsLegal tally (called tally user moment call)
-called_legal tally user moment (Run command) = run_legal tally user moment command _ refl
+called_legal tally user moment (Run command) = run_legal tally user moment command
 called_legal tally user moment (Page id) = card_legal tally id (card_of tally.world id)
 called_legal tally user moment (Refs id) = refs_legal tally id (refs_shown tally.world id)
 called_legal tally user moment (Desk id) = desk_legal tally (text_at tally.world.desks id user)

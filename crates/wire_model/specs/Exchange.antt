@@ -1,5 +1,5 @@
 -- The exchange of one request: which answer it gets after a history, and what that adds to it.
-use Rattle.std.specs.Prelude.{ℕ, ◌+◌, List, [], ◌∷◌, ◌++◌, Option, Some, None, Result, Ok, Err, if◌then◌else◌}
+use Rattle.std.specs.Prelude.{ℕ, ◌+◌, List, [], ◌∷◌, ◌++◌, Option, Some, None, Result, Ok, Err}
 use Rattle.sha2.specs.Sha256.{sha256}
 use Rattle.site_types.specs.Content.{ContentValue}
 use Rattle.site_types.specs.declared.command.Command.{Command}
@@ -14,7 +14,7 @@ use Rattle.site_model.specs.World.{World}
 use Rattle.site_model.specs.Rights as rights
 use Rattle.site_model.specs.Sound.{IsSound}
 use Rattle.site_model.specs.Desks.{text_at}
-use Rattle.site_model.specs.Step.{is_built, step}
+use Rattle.site_model.specs.Step.{step}
 use Rattle.http_model.specs.Requests.{Request}
 use Rattle.public_view.specs.declared.card.Card.{Card}
 use Rattle.wire_model.specs.declared.answer.Answer.{Answer}
@@ -80,14 +80,10 @@ decided entry (Err refusal) = telling (answers.Refused refusal)
 abbrev pub entered : Tally World → Entry → Outcome
 entered tally entry = decided entry (histories.decide decider tally entry)
 
--- A command by a user at a moment. Each that a request can ask for is built, so that no request is
--- told that its command is not: what is not built yet has no route to it, and such a route is told
--- of instead.
+-- a command by a user at a moment: what the entry with the next number gets
 abbrev pub run : Tally World → ℕ → ℕ → Command → Outcome
 run tally user moment command =
-    if is_built command
-    then entered tally (entry_of user moment command (tally.number + 1))
-    else telling answers.NotBuilt
+    entered tally (entry_of user moment command (tally.number + 1))
 
 -- the card of a page, or that there is none
 abbrev pub card_told : ℕ → Option Card → Outcome

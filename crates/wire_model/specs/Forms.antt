@@ -1,16 +1,17 @@
 -- The forms of commands: which command a body asks for by each.
-use Rattle.std.specs.Prelude.{ℕ, Bool, ◌+◌, ◌-◌, ◌*◌, ◌==◌, List, [], ◌∷◌, map, length, codes, Option, Some, None, option_map, option_and_then, if◌then◌else◌}
+use Rattle.std.specs.Prelude.{ℕ, Bool, ◌+◌, ◌-◌, ◌*◌, ◌==◌, nat_lt, List, [], ◌∷◌, map, length, codes, Option, Some, None, option_map, option_and_then, if◌then◌else◌}
+use Rattle.std.specs.Bool.{then_some}
 use Rattle.std.specs.Str.{is_utf8}
 use Rattle.serde_json.specs.Data.{Data}
 use Rattle.serde_json.specs.Find.{get, as_str}
 use Rattle.serde_json.specs.Read.{read}
-use Rattle.json_model.specs.Members.{has_exactly, text_at, id_of, slug_of, truth_of, whole_within, is_within}
+use Rattle.json_model.specs.Members.{has_exactly, text_at, id_of, slug_of, truth_of, whole_within, is_within, list_of}
 use Rattle.json_model.specs.Content.{content_of}
 use Rattle.site_types.specs.Content.{ContentValue}
 use Rattle.site_types.specs.declared.command.Command.{Command}
 use Rattle.site_ids.specs.declared.digest.TheConstants.{DIGEST_BYTES}
-use Rattle.site_ids.specs.declared.ids.TheConstants.{LAST_USER_ID, LAST_GROUP_ID}
-use Rattle.site_types.specs.declared.command.Command.TheVariants.{Create, Move, Delete, SetSlug, Alias, Detach, Copy, OpenDesk, SaveDesk, ShutDesk, File, Publish, Unpublish, Unschedule, Lock, Unlock, Purge, Submit, Approve, Reject, Cancel, DefineUser, DefineGroup, Member, Grant, Tick}
+use Rattle.site_ids.specs.declared.ids.TheConstants.{LAST_USER_ID, LAST_GROUP_ID, LAST_TASK_ID, LAST_WORKFLOW_ID}
+use Rattle.site_types.specs.declared.command.Command.TheVariants.{Create, Move, Delete, SetSlug, Alias, Detach, Copy, OpenDesk, SaveDesk, ShutDesk, File, Publish, Unpublish, Unschedule, Lock, Unlock, Purge, DefineTask, DefineWorkflow, Assign, Submit, Approve, Reject, Cancel, DefineUser, DefineGroup, Member, Grant, Tick}
 use Rattle.site_types.specs.declared.permission.Permission.{Permission}
 use Rattle.site_types.specs.declared.position.Position.{Position}
 use Rattle.wire_model.specs.declared.form.CommandForm.{CommandForm}
@@ -18,6 +19,7 @@ use Rattle.wire_model.specs.declared.form.CommandForm.TheVariants as forms
 use Rattle.wire_model.specs.declared.form.PageVerb.{PageVerb}
 use Rattle.wire_model.specs.declared.form.PageVerb.TheVariants as verbs
 use Rattle.wire_model.specs.declared.names.TheConstants.{POSITIONS, PERMISSIONS}
+use Rattle.wire_model.specs.declared.words.TheConstants.{MAX_NAMED_IDS}
 use Rattle.wire_model.specs.Tables.{named}
 use Rattle.wire_model.specs.Times.{time_at}
 
@@ -252,6 +254,69 @@ grant_in value =
 abbrev pub tick_in : Data → Option Command
 tick_in value = if has_exactly [] value then Some Tick else None
 
+-- the ids that a list has, each from 1 to the last one of its kind, if it has 1 to 16
+abbrev pub ids_of : ℕ → Data → Option (List ℕ)
+ids_of last value =
+    option_and_then (λ ids. then_some (is_within 1 MAX_NAMED_IDS (length ids)) ids)
+    (list_of (whole_within 1 last) value)
+
+-- the ids at a member
+abbrev pub ids_at : List ℕ → ℕ → Data → Option (List ℕ)
+ids_at name last value = option_and_then (ids_of last) (get name value)
+
+-- ids that rise, with one more at its place; nothing if it is one of them
+abbrev pub placed : ℕ → List ℕ → Option (List ℕ)
+placed id [] = Some (id ∷ [])
+placed id (first ∷ ids) =
+    if nat_lt id first
+    then Some (id ∷ first ∷ ids)
+    else if id == first then None else option_map (λ more. first ∷ more) (placed id ids)
+
+-- ids that rise, with others put in one by one; nothing if one of them is there already
+abbrev pub gathered : List ℕ → List ℕ → Option (List ℕ)
+gathered kept [] = Some kept
+gathered kept (id ∷ ids) = option_and_then (λ more. gathered more ids) (placed id kept)
+
+-- the groups at the member groups, in any order there: rising, each once
+abbrev pub groups_at : Data → Option (List ℕ)
+groups_at value = option_and_then (gathered []) (ids_at (codes "groups") LAST_GROUP_ID value)
+
+-- the definition of a task that an object asks for: it has exactly the member groups
+abbrev pub task_definition_in : Data → Option Command
+task_definition_in value =
+    if has_exactly (codes "groups" ∷ []) value
+    then option_map DefineTask (groups_at value)
+    else None
+
+-- the definition of a workflow that an object asks for: it has exactly the member tasks
+abbrev pub workflow_definition_in : Data → Option Command
+workflow_definition_in value =
+    if has_exactly (codes "tasks" ∷ []) value
+    then option_map DefineWorkflow (ids_at (codes "tasks") LAST_TASK_ID value)
+    else None
+
+-- the workflow with a number, or none for 0
+abbrev pub workflow_numbered : ℕ → Option ℕ
+workflow_numbered number = if number == 0 then None else Some number
+
+-- the workflow at the member workflow: a whole number from 0 to 65,535
+abbrev pub workflow_at : Data → Option (Option ℕ)
+workflow_at value =
+    option_map workflow_numbered
+    (option_and_then (whole_within 0 LAST_WORKFLOW_ID) (get (codes "workflow") value))
+
+-- the assignment of this workflow to this page, or the end of the page's own
+abbrev pub assignment_of : Option ℕ → Option (Option ℕ) → Option Command
+assignment_of (Some page) (Some workflow) = Some (Assign page workflow)
+assignment_of page workflow = None
+
+-- the assignment that an object asks for: it has exactly the members page and workflow
+abbrev pub assignment_in : Data → Option Command
+assignment_in value =
+    if has_exactly (codes "page" ∷ codes "workflow" ∷ []) value
+    then assignment_of (id_at (codes "page") value) (workflow_at value)
+    else None
+
 -- the command of a form that an object asks for
 abbrev pub command_in : CommandForm → Data → Option Command
 command_in forms.Create value = creation_in value
@@ -267,6 +332,9 @@ command_in forms.DefineGroup value = group_definition_in value
 command_in forms.Member value = membership_in value
 command_in forms.Grant value = grant_in value
 command_in forms.Tick value = tick_in value
+command_in forms.DefineTask value = task_definition_in value
+command_in forms.DefineWorkflow value = workflow_definition_in value
+command_in forms.Assign value = assignment_in value
 
 -- the command that a body asks for on the route of commands of a form
 unfoldable pub command_asked : CommandForm → List ℕ → Option Command

@@ -2,12 +2,13 @@
 use Rattle.std.specs.Prelude.{◌≡◌, ◌↔◌, ℕ, ◌≤◌, List, ◌++◌, length, Option, Some, IsSome, IsTrue, Ok}
 use Rattle.site_types.specs.declared.command.Command.{Command}
 use Rattle.site_model.specs.Laws.{FitsCommand}
-use Rattle.site_model.specs.Step.{is_built}
 use Rattle.http_model.specs.Requests.{Request, whole, IsFront}
 use Rattle.wire_model.specs.declared.call.Call.TheVariants.{Run}
 use Rattle.civil_time.specs.TimeText.{IsTimeText}
 use Rattle.wire_model.specs.Times.{time_of}
-use Rattle.wire_model.specs.Routes.{call_of}
+use Rattle.wire_model.specs.declared.form.CommandForm.{CommandForm}
+use Rattle.wire_model.specs.Tables.{named}
+use Rattle.wire_model.specs.Routes.{command_routes, call_of}
 use Rattle.wire_model.specs.Exchange.{Past, IsLegal}
 use Rattle.wire_model.specs.Transcript.{Told, Follows, HasMoments, closes}
 
@@ -74,14 +75,14 @@ ClosingIsLast =
     IsTrue (closes told) →
     length other ≤ length told
 
--- each command that a request can ask for is built
-abbrev pub RoutesAreBuilt : Type 0
-RoutesAreBuilt =
-    (request : Request) (command : Command) →
-    call_of request ≡ Ok (Run command) → IsTrue (is_built command)
+-- commands of each form are posted to a route
+abbrev pub EachFormHasARoute : Type 0
+EachFormHasARoute =
+    (form : CommandForm) → (path : List ℕ) × (named command_routes path ≡ Some (Some form))
 
 -- each command that a request can ask for fits: its slug is by the rule of slugs, its content is
--- within its limits, its moments are moments, and its digest has its bytes
+-- within its limits, its moments are moments, its digest has its bytes, its groups rise, and of
+-- groups and tasks it has 1 to 16
 abbrev pub RoutesFit : Type 0
 RoutesFit =
     (request : Request) (command : Command) →

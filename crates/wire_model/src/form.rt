@@ -29,6 +29,12 @@ pub enum CommandForm {
     Grant,
     /// A tick: no members.
     Tick,
+    /// The definition of a task of moderation: groups.
+    DefineTask,
+    /// The definition of a workflow: tasks.
+    DefineWorkflow,
+    /// The workflow of a page, or its end: page and workflow.
+    Assign,
 }
 
 /// The commands whose bodies name a page alone, `{"page":N}`.

@@ -1,6 +1,6 @@
 //! Laws of transcripts and of what requests ask for. Each is a function that does nothing: its
 //! contract is the law.
-ghost use Rattle.wire_model.specs.Laws.{TranscriptStays, TranscriptKeepsLegal, LongerBeginsWithShorter, OneTranscript, NothingAskedIsLast, ClosingIsLast, RoutesAreBuilt, RoutesFit, TimesAreTexts};
+ghost use Rattle.wire_model.specs.Laws.{TranscriptStays, TranscriptKeepsLegal, LongerBeginsWithShorter, OneTranscript, NothingAskedIsLast, ClosingIsLast, EachFormHasARoute, RoutesFit, TimesAreTexts};
 
 /// A transcript stays one when more bytes follow.
 pub fn transcript_stays()
@@ -32,9 +32,9 @@ pub fn closing_is_last()
     ensures { ClosingIsLast }
 {}
 
-/// Each command that a request can ask for is built.
-pub fn routes_are_built()
-    ensures { RoutesAreBuilt }
+/// Commands of each form are posted to a route.
+pub fn each_form_has_a_route()
+    ensures { EachFormHasARoute }
 {}
 
 /// Each command that a request can ask for fits.

@@ -16,4 +16,4 @@ pub use call::{Call, RouteFault};
 pub use form::{CommandForm, PageVerb, ReadForm};
 pub use names::{PERMISSIONS, POSITIONS};
 pub use routes::{COMMAND_ROUTES, CommandRoute, READ_ROUTES, ReadRoute};
-pub use words::{API, API_FRONT, MAX_ID_DIGITS};
+pub use words::{API, API_FRONT, MAX_ID_DIGITS, MAX_NAMED_IDS};

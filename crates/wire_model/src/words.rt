@@ -8,3 +8,6 @@ pub const API_FRONT: &[u8] = b"/api/";
 
 /// The most digits that an id has in a path.
 pub const MAX_ID_DIGITS: usize = 7;
+
+/// The most groups of a task, and the most tasks of a workflow, in a body.
+pub const MAX_NAMED_IDS: usize = 16;

@@ -1,6 +1,6 @@
-//! What bodies on desks ask for, and the moments of a filing.
+//! What bodies on desks ask for, the moments of a filing, and lists of groups and tasks.
 use api_routes::{Call, Method, Request, RouteFault, Routes};
-use site_types::{Command, Moment};
+use site_types::{Command, Ids, Moment, WorkflowId};
 use std::test::Fail;
 
 /// A path, a body that is posted there, and what it asks for.
@@ -19,14 +19,46 @@ enum Asked {
     Save(u32, usize),
     /// To file the text on this page, with its go-live and its expiry.
     File(u32, Option<u64>, Option<u64>),
+    /// To define a task with these three groups.
+    Task([u32; 3]),
+    /// To define a workflow with these three tasks.
+    Workflow([u32; 3]),
+    /// To give this page this workflow, or none.
+    Assign(u32, Option<u32>),
     /// Nothing, since the body is not of the form.
     Form,
     /// Something else.
     Other,
 }
 
-/// Desks that are opened and saved, and filings with moments, without them and out of form.
-const POSTS: [PostRow; 8] = [
+/// Desks that are opened and saved, and filings with moments, without them and out of form; groups,
+/// which come out rising, tasks, which keep their order, and a workflow that is none.
+const POSTS: [PostRow; 13] = [
+    PostRow {
+        path: b"/api/tasks",
+        body: b"{\"groups\":[65535,1,3]}",
+        asked: Asked::Task([1, 3, 65_535]),
+    },
+    PostRow {
+        path: b"/api/tasks",
+        body: b"{\"groups\":[1,3,1]}",
+        asked: Asked::Form,
+    },
+    PostRow {
+        path: b"/api/workflows",
+        body: b"{\"tasks\":[2,1,2]}",
+        asked: Asked::Workflow([2, 1, 2]),
+    },
+    PostRow {
+        path: b"/api/assign",
+        body: b"{\"page\":2,\"workflow\":7}",
+        asked: Asked::Assign(2, Some(7)),
+    },
+    PostRow {
+        path: b"/api/assign",
+        body: b"{\"page\":2,\"workflow\":0}",
+        asked: Asked::Assign(2, None),
+    },
     PostRow {
         path: b"/api/open",
         body: b"{\"page\":2}",
@@ -89,7 +121,26 @@ fn command_of(command: &Command) -> Asked {
             go_live,
             expire,
         } => Asked::File(page.get(), seconds(*go_live), seconds(*expire)),
+        Command::DefineTask { groups } => Asked::Task(three_of(groups)),
+        Command::DefineWorkflow { tasks } => Asked::Workflow(three_of(tasks)),
+        Command::Assign { page, workflow } => Asked::Assign(page.get(), number_of(*workflow)),
         _ => Asked::Other,
+    }
+}
+
+/// The ids of a list of three, and zeros for any other.
+fn three_of(ids: &Ids) -> [u32; 3] {
+    match ids.as_slice() {
+        [first, second, third] => [*first, *second, *third],
+        _ => [0, 0, 0],
+    }
+}
+
+/// The number of a workflow, if there is one.
+fn number_of(workflow: Option<WorkflowId>) -> Option<u32> {
+    match workflow {
+        Some(id) => Some(id.get()),
+        None => None,
     }
 }
 
@@ -102,7 +153,7 @@ fn seconds(at: Option<Moment>) -> Option<u64> {
 }
 
 #[test]
-fn bodies_on_desks_are_read(rt: HostRuntime) -> Result<(), Fail> {
+fn bodies_are_read(rt: HostRuntime) -> Result<(), Fail> {
     let alloc = rt.alloc();
     let routes = Routes::new(alloc)?;
     for row in &POSTS {

@@ -3,7 +3,7 @@ use Rattle.std.proofs.Common.{sym, ap, ◌∙◌}
 use Rattle.site_types.specs.declared.body.Body.{Body}
 use Rattle.flow_edits.specs.Plans.{filing_plan}
 use Rattle.flat_model.proofs.KeptPages.{same_body}
-use Rattle.flow_edits.proofs.Facts.{not_missing}
+use Rattle.moderating.proofs.Facts.{not_missing}
 use Rattle.flow_edits.proofs.filing.filing_plan.Goals as goal
 
 pub unreachable-requires : goal.unreachable-requires

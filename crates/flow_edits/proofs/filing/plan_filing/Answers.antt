@@ -1,5 +1,5 @@
 -- Whether the caller has a desk there; what rules refuse; and the plan of what none refuses.
-use Rattle.std.proofs.Common.{◌≡◌, refl, ap}
+use Rattle.std.proofs.Common.{◌≡◌, ap}
 use Rattle.std.specs.Option.{option_copied}
 use Rattle.site_model.specs.Desks as desks
 use Rattle.site_types.specs.declared.revision.Revision.{Revision}

@@ -1,5 +1,5 @@
 -- The page is there; whether somebody has locked it.
-use Rattle.std.proofs.Common.{not, max, sym, ap, ◌∙◌}
+use Rattle.std.proofs.Common.{not, max, ap, ◌∙◌}
 use Rattle.flow_edits.proofs.Facts.{unlock_names}
 use Rattle.flow_edits.proofs.LockPlans.{unlock_idle, unlock_prepared}
 use Rattle.flow_edits.proofs.locking.plan_unlock.Goals as goal

@@ -1,7 +1,8 @@
 -- A page below the root has a latest revision.
 use Rattle.std.proofs.Common.{sym, ap, ◌∙◌}
 use Rattle.std.specs.Option.{option_copied}
-use Rattle.flow_edits.proofs.Facts.{open_names, open_regular, latest_there}
+use Rattle.moderating.proofs.Facts.{latest_there}
+use Rattle.flow_edits.proofs.Facts.{open_names, open_regular}
 use Rattle.flow_edits.proofs.opening.open_text.Goals as goal
 
 pub unreachable-requires : goal.unreachable-requires

@@ -1,5 +1,5 @@
 -- A desk is opened where no rule refuses it, with room for one.
-use Rattle.std.proofs.Common.{◌≡◌, Some, max, refl, sym, ap, subst}
+use Rattle.std.proofs.Common.{◌≡◌, Some, max, sym, ap, subst}
 use Rattle.site_model.specs.Bodies.{latest_content}
 use Rattle.site_types.specs.declared.command.Command.TheVariants as commands
 use Rattle.grants.specs.Plans.{HasPlan}

@@ -8,7 +8,7 @@ use Rattle.flat_model.specs.declared.change.Change.{Change}
 use Rattle.flat_model.specs.declared.change.TreeChange.TheVariants.{Nothing}
 use Rattle.grants.specs.Plans.{HasPlan}
 use Rattle.grants.specs.declared.plan.Plan.{Plan}
-use Rattle.flow_edits.specs.Plans.{ending_plan}
+use Rattle.moderating.specs.Plans.{ending_plan}
 use Rattle.flow_edits.proofs.OpenPlans.{shut_none, shut_planned}
 use Rattle.flow_edits.proofs.opening.plan_shutting.Goals as goal
 

@@ -3,7 +3,7 @@ use Rattle.std.proofs.Common.{sym, subst}
 use Rattle.std.specs.Option.{option_copied}
 use Rattle.site_types.specs.declared.command.Command.{Command}
 use Rattle.grants.specs.Plans.{Prepares}
-use Rattle.flow_edits.specs.Asked.{IsAsked}
+use Rattle.moderating.specs.Asked.{IsAsked}
 use Rattle.flow_edits.proofs.prepare.plan_passed.Goals as goal
 
 pub returns-in-OpenDesk-clause-plan : goal.returns-in-OpenDesk-clause-plan
@@ -68,6 +68,62 @@ returns-in-Purge-clause-plan c = λ world asked.
     c.args.caller command c.args.part.now c.plan_purge.result) (sym c.in-Purge.is)
     (c.plan_purge.ensures world (option_copied c.args.desk) c.args.caller
     (subst (IsAsked c.args.part.now world (option_copied c.args.desk) c.args.caller) c.in-Purge.is
+    asked))
+
+pub returns-in-DefineTask-clause-plan : goal.returns-in-DefineTask-clause-plan
+returns-in-DefineTask-clause-plan c = λ world asked.
+    subst (λ (command : Command). Prepares world (option_copied c.args.desk) c.args.now
+    c.args.caller command c.plan_task.new.part c.plan_task.result) (sym c.in-DefineTask.is)
+    (c.plan_task.ensures.plan world (option_copied c.args.desk) c.args.caller
+    (subst (IsAsked c.args.part.now world (option_copied c.args.desk) c.args.caller) c.in-DefineTask.is
+    asked))
+
+pub returns-in-DefineWorkflow-clause-plan : goal.returns-in-DefineWorkflow-clause-plan
+returns-in-DefineWorkflow-clause-plan c = λ world asked.
+    subst (λ (command : Command). Prepares world (option_copied c.args.desk) c.args.now
+    c.args.caller command c.plan_workflow.new.part c.plan_workflow.result) (sym c.in-DefineWorkflow.is)
+    (c.plan_workflow.ensures.plan world (option_copied c.args.desk) c.args.caller
+    (subst (IsAsked c.args.part.now world (option_copied c.args.desk) c.args.caller) c.in-DefineWorkflow.is
+    asked))
+
+pub returns-in-Assign-clause-plan : goal.returns-in-Assign-clause-plan
+returns-in-Assign-clause-plan c = λ world asked.
+    subst (λ (command : Command). Prepares world (option_copied c.args.desk) c.args.now
+    c.args.caller command c.args.part.now c.plan_assignment.result) (sym c.in-Assign.is)
+    (c.plan_assignment.ensures world (option_copied c.args.desk) c.args.caller
+    (subst (IsAsked c.args.part.now world (option_copied c.args.desk) c.args.caller) c.in-Assign.is
+    asked))
+
+pub returns-in-Submit-clause-plan : goal.returns-in-Submit-clause-plan
+returns-in-Submit-clause-plan c = λ world asked.
+    subst (λ (command : Command). Prepares world (option_copied c.args.desk) c.args.now
+    c.args.caller command c.args.part.now c.plan_submission.result) (sym c.in-Submit.is)
+    (c.plan_submission.ensures world (option_copied c.args.desk)
+    (subst (IsAsked c.args.part.now world (option_copied c.args.desk) c.args.caller) c.in-Submit.is
+    asked))
+
+pub returns-in-Approve-clause-plan : goal.returns-in-Approve-clause-plan
+returns-in-Approve-clause-plan c = λ world asked.
+    subst (λ (command : Command). Prepares world (option_copied c.args.desk) c.args.now
+    c.args.caller command c.args.part.now c.plan_approval.result) (sym c.in-Approve.is)
+    (c.plan_approval.ensures world (option_copied c.args.desk) c.args.caller
+    (subst (IsAsked c.args.part.now world (option_copied c.args.desk) c.args.caller) c.in-Approve.is
+    asked))
+
+pub returns-in-Reject-clause-plan : goal.returns-in-Reject-clause-plan
+returns-in-Reject-clause-plan c = λ world asked.
+    subst (λ (command : Command). Prepares world (option_copied c.args.desk) c.args.now
+    c.args.caller command c.args.part.now c.plan_rejection.result) (sym c.in-Reject.is)
+    (c.plan_rejection.ensures world (option_copied c.args.desk) c.args.caller
+    (subst (IsAsked c.args.part.now world (option_copied c.args.desk) c.args.caller) c.in-Reject.is
+    asked))
+
+pub returns-in-Cancel-clause-plan : goal.returns-in-Cancel-clause-plan
+returns-in-Cancel-clause-plan c = λ world asked.
+    subst (λ (command : Command). Prepares world (option_copied c.args.desk) c.args.now
+    c.args.caller command c.args.part.now c.plan_cancelling.result) (sym c.in-Cancel.is)
+    (c.plan_cancelling.ensures world (option_copied c.args.desk) c.args.caller
+    (subst (IsAsked c.args.part.now world (option_copied c.args.desk) c.args.caller) c.in-Cancel.is
     asked))
 
 pub returns-in-DefineUser-clause-plan : goal.returns-in-DefineUser-clause-plan

@@ -1,7 +1,11 @@
 -- The page is there and has a latest revision; whether that is out already, and whether it is too late.
 use Rattle.std.proofs.Common.{max, sym, ap, ◌∙◌}
 use Rattle.std.specs.Option.{option_copied}
-use Rattle.flow_edits.proofs.Facts.{publish_names, publish_regular, latest_there}
+use Rattle.site_types.specs.declared.body.Body.{Body}
+use Rattle.site_model.specs.LosingLaws.{desks_lost_with}
+use Rattle.grants.specs.Plans.{pages_of}
+use Rattle.moderating.proofs.Facts.{latest_there}
+use Rattle.flow_edits.proofs.Facts.{publish_names, publish_regular}
 use Rattle.flow_edits.proofs.PublishPlans.{publish_known, publish_late, publish_prepared}
 use Rattle.flow_edits.proofs.publication.plan_publish.Goals as goal
 
@@ -53,5 +57,8 @@ returns c = λ world desk caller asked.
     ∙ ap option_copied c.in-Some.is) c.later-time.result
     (c.later-time.ensures ∙ ap (λ t. max t c.args.now) asked.given.ready.stands.time)
     (sym c.is_out.ensures ∙ c.if-is_out.false) (sym c.is_late.ensures ∙ c.if-is_late.false)
-    c.waits.result c.published_body-after.result c.no_pages.result c.waits.ensures
-    c.published_body-after.ensures c.no_pages.ensures c.body_plan.result c.body_plan.ensures
+    c.waits.result c.published_by_command-after.result c.in-Ok.shut c.waits.ensures
+    c.published_by_command-after.ensures
+    (c.in-Ok.ensures world asked.given.ready
+    ∙ ap (λ (after : Body). pages_of (desks_lost_with world c.args.page after.moderation))
+    c.published_by_command-after.ensures) c.body_plan.result c.body_plan.ensures

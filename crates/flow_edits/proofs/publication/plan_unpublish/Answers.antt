@@ -1,5 +1,5 @@
 -- The page is there; whether it is live.
-use Rattle.std.proofs.Common.{max, sym, ap, ◌∙◌}
+use Rattle.std.proofs.Common.{max, ap, ◌∙◌}
 use Rattle.flow_edits.proofs.Facts.{unpublish_names}
 use Rattle.flow_edits.proofs.PublishPlans.{unpublish_dead, unpublish_prepared}
 use Rattle.flow_edits.proofs.publication.plan_unpublish.Goals as goal

@@ -1,5 +1,5 @@
 -- The page is there; whether it has something scheduled.
-use Rattle.std.proofs.Common.{not, max, sym, ap, ◌∙◌}
+use Rattle.std.proofs.Common.{not, max, ap, ◌∙◌}
 use Rattle.flow_edits.proofs.Facts.{unschedule_names}
 use Rattle.flow_edits.proofs.PublishPlans.{unschedule_idle, unschedule_prepared}
 use Rattle.flow_edits.proofs.publication.plan_unschedule.Goals as goal

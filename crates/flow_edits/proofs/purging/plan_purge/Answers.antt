@@ -1,5 +1,5 @@
 -- The page is there; whether any revision goes.
-use Rattle.std.proofs.Common.{length, max, sym, ap, ◌∙◌}
+use Rattle.std.proofs.Common.{length, max, ap, ◌∙◌}
 use Rattle.flow_edits.proofs.Facts.{purge_names}
 use Rattle.flat_model.specs.declared.change.Purge.{Purge}
 use Rattle.flow_edits.specs.Plans.{taken}

@@ -20,17 +20,17 @@ first_need-requires c =
     (needs_named world.tree c.args.command.now c.requires.2))
 
 pub returns-in-Some : goal.returns-in-Some
-returns-in-Some c world stands none =
+returns-in-Some c world stands =
     ap need_told
-    (c.in-Some.ensures world stands none
+    (c.in-Some.ensures world stands
     ∙ (ap (λ row. unmet world c.args.user (seen_needs world c.args.user row))
     c.need_row-row.ensures
     ∙ ap (unmet world c.args.user) (needs_seen world c.args.user c.args.command.now)))
 
 pub returns-in-None : goal.returns-in-None
-returns-in-None c world stands none =
+returns-in-None c world stands =
     ap need_told
-    (c.in-None.ensures world stands none
+    (c.in-None.ensures world stands
     ∙ (ap (λ row. unmet world c.args.user (seen_needs world c.args.user row))
     c.need_row-row.ensures
     ∙ ap (unmet world c.args.user) (needs_seen world c.args.user c.args.command.now)))

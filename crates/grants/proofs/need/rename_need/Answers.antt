@@ -3,10 +3,10 @@ use Rattle.grants.proofs.NeedLemmas.{first_is, later_is, only_is}
 use Rattle.grants.proofs.need.rename_need.Goals as goal
 
 pub returns-in-Some : goal.returns-in-Some
-returns-in-Some c world stands none =
-    first_is _ _ c.in-Some.number (c.in-Some.ensures world stands none)
+returns-in-Some c world stands =
+    first_is _ _ c.in-Some.number (c.in-Some.ensures world stands)
 
 pub returns-in-None : goal.returns-in-None
-returns-in-None c world stands none =
-    later_is _ c.live_need.result _ (c.in-None.ensures world stands none)
+returns-in-None c world stands =
+    later_is _ c.live_need.result _ (c.in-None.ensures world stands)
     (only_is _ c.live_need.result (c.live_need.ensures world stands))

@@ -1,5 +1,5 @@
 -- Each grant adds what it gives.
-use Rattle.std.proofs.Common.{List, nat_eq, ◌&&◌, refl, ap, ◌∙◌, arith}
+use Rattle.std.proofs.Common.{List, refl, ap, ◌∙◌, arith}
 use Rattle.std.specs.List.{list_any}
 use Rattle.std.proofs.lemmas.List.{take_all}
 use Rattle.site_types.specs.declared.world_rows.Grant.{Grant}

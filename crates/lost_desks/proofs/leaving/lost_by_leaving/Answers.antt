@@ -1,5 +1,5 @@
 -- The membership is put in again, and without it the part has the desks of the world without it.
-use Rattle.std.proofs.Common.{◌≡◌, ◌+◌, ℕ, List, true, false, refl, sym, ap, subst, ◌∙◌}
+use Rattle.std.proofs.Common.{◌≡◌, ◌+◌, List, true, false, sym, ap, subst, ◌∙◌}
 use Rattle.std.specs.List.{list_any}
 use Rattle.site_types.specs.declared.world_rows.Member.{Member}
 use Rattle.site_model.specs.World.{TreePart}
@@ -7,7 +7,6 @@ use Rattle.site_model.specs.Sound.{KeysRise}
 use Rattle.site_model.specs.Users.{member_key, is_membership, members_after}
 use Rattle.flat_model.specs.People.{members_with}
 use Rattle.grants.proofs.StandingLemmas.{same_grants}
-use Rattle.grants.proofs.FrontLemmas.{no_moderation}
 use Rattle.lost_desks.proofs.BackLemmas.{member_back, member_gone}
 use Rattle.lost_desks.proofs.leaving.lost_by_leaving.Goals as goal
 
@@ -50,6 +49,9 @@ returns-clause-lost c world now ready =
             ∙ member_gone world.members c.args.user c.args.group there);
         grants = c.set_member.ensures.grants ∙ (kept.grants ∙ lists.grants);
       };
+      flows = record {
+        tasks = ready.stands.flows.tasks;
+        workflows = ready.stands.flows.workflows;
+      };
       desks = ready.stands.desks;
-      unmoderated = no_moderation world ready.reached;
     }

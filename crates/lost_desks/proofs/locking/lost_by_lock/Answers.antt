@@ -1,10 +1,10 @@
 -- The desk on the page ends if it is another user's.
-use Rattle.std.proofs.Common.{◌≡◌, List, ℕ, Some, None, ap, sym, subst, ◌∙◌}
+use Rattle.std.proofs.Common.{◌≡◌, not, nat_eq, List, ℕ, Some, None, ap, sym, subst, ◌∙◌}
 use Rattle.std.specs.Prelude.{IfOk}
 use Rattle.site_model.specs.World.{DeskPair}
 use Rattle.site_model.specs.Desks.{desk_user}
-use Rattle.lost_desks.specs.Losses.{page_if_other}
-use Rattle.lost_desks.proofs.LossLemmas.{others_desk}
+use Rattle.lost_desks.specs.Losses.{page_if}
+use Rattle.lost_desks.proofs.LossLemmas.{desk_alone}
 use Rattle.lost_desks.proofs.locking.lost_by_lock.Goals as goal
 
 pub returns-in-Some : goal.returns-in-Some
@@ -12,17 +12,18 @@ returns-in-Some c world ready =
     let told = sym c.in-Some.is ∙ c.user_at.ensures in
     let there : Some c.in-Some.user ≡ desk_user world.desk_pairs c.args.page =
     told ∙ ap (λ (pairs : List DeskPair). desk_user pairs c.args.page) ready.stands.desks in
-    subst (λ (list : List ℕ). IfOk c.page_if_other.result (λ ids. ids ≡ list))
-    (ap (page_if_other c.args.page c.args.caller) there
-    ∙ others_desk c.args.page c.args.caller world.desk_pairs ready.reached.sound.desks.desks_rise)
-    c.page_if_other.ensures
+    subst (λ (list : List ℕ). IfOk c.page_if.result (λ ids. ids ≡ list))
+    (ap (page_if (λ user. not (nat_eq c.args.caller user)) c.args.page) there
+    ∙ desk_alone c.args.page (λ (pair : DeskPair). not (nat_eq c.args.caller pair.user))
+    world.desk_pairs ready.reached.sound.desks.desks_rise)
+    (rw (← c.ne.ensures) c.page_if.ensures)
 
 pub returns-in-None : goal.returns-in-None
 returns-in-None c world ready =
     let told = sym c.in-None.is ∙ c.user_at.ensures in
     let there : None ≡ desk_user world.desk_pairs c.args.page =
     told ∙ ap (λ (pairs : List DeskPair). desk_user pairs c.args.page) ready.stands.desks in
-    c.from_vec.ensures
-    ∙ (c.new.ensures.items
-    ∙ (ap (page_if_other c.args.page c.args.caller) there
-    ∙ others_desk c.args.page c.args.caller world.desk_pairs ready.reached.sound.desks.desks_rise))
+    c.no_page.ensures
+    ∙ (ap (page_if (λ user. not (nat_eq c.args.caller user)) c.args.page) there
+    ∙ desk_alone c.args.page (λ (pair : DeskPair). not (nat_eq c.args.caller pair.user))
+    world.desk_pairs ready.reached.sound.desks.desks_rise)

@@ -1,5 +1,5 @@
 -- Each desk that ends is the next of those that do.
-use Rattle.std.proofs.Common.{◌≡◌, ◌++◌, List, [], ◌∷◌, ℕ, Vec, Global, sym, ap, ◌∙◌}
+use Rattle.std.proofs.Common.{ℕ, Vec, Global, ap}
 use Rattle.lost_desks.specs.Losses.{is_lost_by}
 use Rattle.lost_desks.proofs.LossLemmas.{lost_more, kept_more}
 use Rattle.lost_desks.proofs.loss.lost_desks.Goals as goal

@@ -1,5 +1,4 @@
 -- What is held at the parent and granted on the way decides.
-use Rattle.grants.proofs.NeedLemmas.{not_moderated}
 use Rattle.lost_desks.proofs.BelowLemmas.{edits_if}
 use Rattle.lost_desks.proofs.moving.may_edit_below.Goals as goal
 
@@ -7,6 +6,5 @@ pub returns : goal.returns
 returns c world has within kept =
     rw (c.eq-own.ensures)
     (edits_if world c.args.top c.args.parent c.args.page c.args.user c.args.body.now c.held-held.result
-    c.granted_from-granted.result kept
-    (not_moderated world.tree c.args.page c.args.body.now has.unmoderated kept)
-    (c.held-held.ensures world has.pages has.lists) (c.granted_from-granted.ensures world has within))
+    c.granted_from-granted.result c.moderates-asked.result kept
+    (c.moderates-asked.ensures world has.lists has.flows) (c.held-held.ensures world has.pages has.lists) (c.granted_from-granted.ensures world has within))

@@ -1,5 +1,5 @@
 -- The grant is put in again, and without it the part has the desks of the world without it.
-use Rattle.std.proofs.Common.{◌≡◌, ◌+◌, ℕ, List, true, false, refl, sym, ap, subst, ◌∙◌}
+use Rattle.std.proofs.Common.{◌≡◌, ◌+◌, List, true, false, sym, ap, subst, ◌∙◌}
 use Rattle.std.specs.List.{list_any}
 use Rattle.site_types.specs.declared.world_rows.Grant.{Grant}
 use Rattle.site_model.specs.World.{TreePart}
@@ -7,7 +7,6 @@ use Rattle.site_model.specs.Sound.{KeysRise}
 use Rattle.site_model.specs.Users.{grant_key, is_grant, grants_after}
 use Rattle.flat_model.specs.People.{grants_with}
 use Rattle.grants.proofs.StandingLemmas.{same_grants}
-use Rattle.grants.proofs.FrontLemmas.{no_moderation}
 use Rattle.lost_desks.proofs.BackLemmas.{grant_back, grant_gone}
 use Rattle.lost_desks.proofs.withdrawal.lost_by_withdrawal.Goals as goal
 
@@ -54,6 +53,9 @@ returns-clause-lost c world now ready =
             (kept.grants ∙ lists.grants)
             ∙ grant_gone world.grants c.args.group c.args.page c.args.permission there);
       };
+      flows = record {
+        tasks = ready.stands.flows.tasks;
+        workflows = ready.stands.flows.workflows;
+      };
       desks = ready.stands.desks;
-      unmoderated = no_moderation world ready.reached;
     }

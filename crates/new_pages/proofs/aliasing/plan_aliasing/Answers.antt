@@ -20,7 +20,7 @@ place_alias-requires c =
 pub returns-in-Err-clause-plan : goal.returns-in-Err-clause-plan
 returns-in-Err-clause-plan c = λ world desk asked.
     own_refused c.args.part.now c.args.part.now world desk c.args.now c.args.caller
-    (Alias c.args.source c.args.parent c.args.slug.now) asked refl
+    (Alias c.args.source c.args.parent c.args.slug.now) asked
     (alias_rules world c.args.now c.args.caller c.args.source c.args.parent c.args.slug.now)
     (alias_own world desk c.args.now c.args.caller c.args.source c.args.parent c.args.slug.now)
     (IsNewAlias world c.args.parent c.args.slug.now) c.in-Err.fault

@@ -1,5 +1,5 @@
 -- The copy is tried, its rows are built, room is made, and the plan is built.
-use Rattle.std.proofs.Common.{◌≡◌, ◌+◌, ℕ, refl, ap, max, ◌∙◌, arith}
+use Rattle.std.proofs.Common.{◌≡◌, ◌+◌, ℕ, ap, max, ◌∙◌, arith}
 use Rattle.site_types.specs.declared.command.Command.TheVariants.{Copy}
 use Rattle.site_model.specs.World as worlds
 use Rattle.site_model.specs.Copies.{copy_rules}
@@ -35,7 +35,7 @@ ids_at-page-requires c =
 pub returns-in-Err-clause-plan : goal.returns-in-Err-clause-plan
 returns-in-Err-clause-plan c = λ world desk asked.
     own_refused c.args.part.now c.args.part.now world desk c.args.now c.args.caller
-    (Copy c.args.page c.args.parent c.args.slug.now c.args.deep) asked refl
+    (Copy c.args.page c.args.parent c.args.slug.now c.args.deep) asked
     (copy_rules world c.args.now c.args.caller c.args.page c.args.parent c.args.slug.now c.args.deep)
     (copy_own world desk c.args.now c.args.caller c.args.page c.args.parent c.args.slug.now
     c.args.deep)

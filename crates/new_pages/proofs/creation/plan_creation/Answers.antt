@@ -1,5 +1,5 @@
 -- A page is planned, room is made, and the plan is built.
-use Rattle.std.proofs.Common.{max, refl, ap, ◌∙◌}
+use Rattle.std.proofs.Common.{max, ap, ◌∙◌}
 use Rattle.site_types.specs.declared.command.Command.TheVariants.{Create}
 use Rattle.site_model.specs.Create.{create_rules}
 use Rattle.new_pages.specs.Making.{IsNewPage}
@@ -11,7 +11,7 @@ use Rattle.new_pages.proofs.creation.plan_creation.Goals as goal
 pub returns-in-Err-clause-plan : goal.returns-in-Err-clause-plan
 returns-in-Err-clause-plan c = λ world desk asked.
     own_refused c.args.part.now c.args.part.now world desk c.args.now c.args.caller
-    (Create c.args.parent c.args.slug.now c.args.content.now) asked refl
+    (Create c.args.parent c.args.slug.now c.args.content.now) asked
     (create_rules world c.args.now c.args.caller c.args.parent c.args.slug.now c.args.content.now)
     (create_own world desk c.args.now c.args.caller c.args.parent c.args.slug.now
     c.args.content.now)

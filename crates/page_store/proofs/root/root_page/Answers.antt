@@ -6,7 +6,7 @@ use Rattle.page_store.proofs.root.root_page.Goals as goal
 pub returns : goal.returns
 returns c = record {
   id_is = c.root-2.ensures;
-  no_parent = refl;
+  no_parent = c.none.ensures;
   not_counted = refl;
   path_is = c.in-Some.ensures.1 ∙ c.as_slice.ensures.value ∙ c.text.ensures.value ∙ ap path_text
       c.root.ensures;

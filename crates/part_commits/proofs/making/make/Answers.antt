@@ -41,6 +41,9 @@ put_people-requires-clause-fits c =
     ∙ ap (λ gone. people_left gone (seen_people c.args.part.now.grants)) c.as_slice-2.ensures))
     c.requires.fits.people
 
+pub put_flows-requires-clause-fits : goal.put_flows-requires-clause-fits
+put_flows-requires-clause-fits c = (seen c.args.part.now, c.requires.fits.flows)
+
 pub returns-clause-made : goal.returns-clause-made
 returns-clause-made c =
     let change = c.args.change in
@@ -54,7 +57,7 @@ returns-clause-made c =
     (c.put_people.ensures
     ∙ ap (people_made change.people) (c.drop_grants.ensures.people
     ∙ ap (λ gone. people_left gone (seen_people c.args.part.now.grants)) c.as_slice-2.ensures))
-    refl refl refl refl refl refl
+    c.put_flows.ensures.tasks c.put_flows.ensures.workflows refl refl refl refl
 
 pub returns-clause-in_step : goal.returns-clause-in_step
 returns-clause-in_step c =

@@ -25,9 +25,6 @@ prepare_flow-requires-clause-given c = (
   },
 )
 
-pub refuse-requires-clause-ready : goal.refuse-requires-clause-ready
-refuse-requires-clause-ready c = (c.requires.ready.0, c.requires.ready.1)
-
 pub unreachable-requires : goal.unreachable-requires
 unreachable-requires c =
     save_grouped c.args.command.now (sym c.group_of.ensures ∙ c.in-Save.is) c.requires.other
@@ -35,9 +32,6 @@ unreachable-requires c =
 pub returns-in-Tree-clause-plan : goal.returns-in-Tree-clause-plan
 returns-in-Tree-clause-plan c = λ world ready fits own.
     c.prepare_tree.ensures.plan world _ ready fits
-
-pub returns-in-Later-clause-plan : goal.returns-in-Later-clause-plan
-returns-in-Later-clause-plan c = λ world ready fits own. c.refuse.ensures world _ c.args.now ready
 
 pub returns-in-Flow-clause-plan : goal.returns-in-Flow-clause-plan
 returns-in-Flow-clause-plan c = λ world ready fits own.

@@ -1,4 +1,4 @@
--- Each command that is built keeps what it touches sound.
+-- Each command keeps what it touches sound.
 use Rattle.site_model.proofs.ReachedSound.{step_by_keeps_reached}
 use Rattle.site_model.proofs.laws.step_by_keeps_reached.Goals as goal
 

@@ -1,4 +1,4 @@
--- No rule refuses a command that is built as one that is not.
+-- A step is its rules and its effect, with the desks that end.
 use Rattle.site_model.proofs.SettledLemmas.{step_is_settled}
 use Rattle.site_model.proofs.laws.step_is_settled.Goals as goal
 

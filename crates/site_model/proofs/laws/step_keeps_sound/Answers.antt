@@ -1,4 +1,4 @@
--- Each command that is built keeps what it touches sound, and the desks that are lost end.
+-- Each command keeps what it touches sound, and the desks that are lost end.
 use Rattle.site_model.proofs.WorldSound.{step_keeps_sound}
 use Rattle.site_model.proofs.laws.step_keeps_sound.Goals as goal
 

@@ -32,7 +32,7 @@ plan_leaving-requires-clause-gone c = c.in-Ok.ensures
 pub returns-in-Err-clause-plan : goal.returns-in-Err-clause-plan
 returns-in-Err-clause-plan c = λ world desk asked.
     own_refused c.args.part.now c.args.part.now world desk c.args.now c.args.caller
-    (Delete c.args.page) asked refl (delete_rules world c.args.now c.args.caller c.args.page)
+    (Delete c.args.page) asked (delete_rules world c.args.now c.args.caller c.args.page)
     (delete_own world desk c.args.now c.args.caller c.args.page)
     (AreDetached world (worlds.time_at world c.args.now) c.args.caller
     (aliases_left world c.args.page)) c.in-Err.fault (c.in-Err.ensures world asked)

@@ -12,7 +12,7 @@ use Rattle.tree_edits.proofs.detaching.plan_detaching.Goals as goal
 pub returns-in-Err-clause-plan : goal.returns-in-Err-clause-plan
 returns-in-Err-clause-plan c = λ world desk asked.
     own_refused c.args.part.now c.args.part.now world desk c.args.now c.args.caller
-    (Detach c.args.page) asked refl (detach_rules world c.args.now c.args.caller c.args.page)
+    (Detach c.args.page) asked (detach_rules world c.args.now c.args.caller c.args.page)
     (detach_own world desk c.args.now c.args.caller c.args.page)
     (IsDetachedAt world (worlds.time_at world c.args.now) world.next_revision c.args.caller
     c.args.page) c.in-Err.fault (c.in-Err.ensures world asked)

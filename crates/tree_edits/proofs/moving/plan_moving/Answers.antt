@@ -19,7 +19,7 @@ plan_there-requires c = (
 pub returns-in-Err-clause-plan : goal.returns-in-Err-clause-plan
 returns-in-Err-clause-plan c = λ world desk caller asked.
     own_refused c.args.part.now c.args.part.now world desk c.args.now caller
-    (Move c.args.page c.args.target c.args.position) asked refl
+    (Move c.args.page c.args.target c.args.position) asked
     (move_rules world.tree c.args.page c.args.target c.args.position)
     (move_own world desk c.args.now caller c.args.page c.args.target c.args.position)
     (IsMovePlan world.tree c.args.page c.args.target c.args.position) c.in-Err.fault
@@ -44,6 +44,7 @@ returns-clause-plan c = λ world desk caller asked.
       pages = c.reserve.ensures.pages;
       revisions = refl;
       lists = record { users = refl; groups = refl; members = refl; grants = refl };
+      flows = record { tasks = refl; workflows = refl };
       desks = refl;
       time = refl;
       next_page = refl;

@@ -1,11 +1,11 @@
 -- The first rules are tried, and then the command is planned.
 use Rattle.std.proofs.Common.{sym, ◌∙◌}
-use Rattle.grants.proofs.FrontLemmas.{no_moderation, passed, refused}
+use Rattle.grants.proofs.FrontLemmas.{passed, refused}
 use Rattle.grants.proofs.StepLemmas.{front_refuses}
 use Rattle.tree_edits.proofs.prepare.prepare_tree.Goals as goal
 
 pub front-requires : goal.front-requires
-front-requires c = (c.requires.ready.0, c.requires.ready.1.stands)
+front-requires c = (c.requires.ready.0, c.requires.ready.1)
 
 pub plan_passed-requires-clause-asked : goal.plan_passed-requires-clause-asked
 plan_passed-requires-clause-asked c =
@@ -15,8 +15,7 @@ plan_passed-requires-clause-asked c =
       record {
         ready = ready;
         fits = c.requires.ready.2;
-        front = passed _ (sym c.in-Ok.is
-            ∙ c.front.ensures world ready.stands (no_moderation world ready.reached));
+        front = passed _ (sym c.in-Ok.is ∙ c.front.ensures world ready.stands);
       },
     )
 
@@ -25,12 +24,10 @@ returns-in-Ok-clause-plan c = λ world desk ready fits.
     c.plan_passed.ensures.plan world desk (record {
       ready = ready;
       fits = fits;
-      front = passed _ (sym c.in-Ok.is
-          ∙ c.front.ensures world ready.stands (no_moderation world ready.reached));
+      front = passed _ (sym c.in-Ok.is ∙ c.front.ensures world ready.stands);
     })
 
 pub returns-in-Err-clause-plan : goal.returns-in-Err-clause-plan
 returns-in-Err-clause-plan c = λ world desk ready fits.
     front_refuses world desk c.args.now c.args.caller c.args.command.now c.in-Err.refusal
-    (refused _ c.in-Err.refusal (sym c.in-Err.is
-    ∙ c.front.ensures world ready.stands (no_moderation world ready.reached)))
+    (refused _ c.in-Err.refusal (sym c.in-Err.is ∙ c.front.ensures world ready.stands))

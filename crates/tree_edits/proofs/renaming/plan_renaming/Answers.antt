@@ -17,7 +17,7 @@ urls_with-requires c = (
 pub returns-in-Err-clause-plan : goal.returns-in-Err-clause-plan
 returns-in-Err-clause-plan c = λ world desk caller asked.
     own_refused c.args.part.now c.args.part.now world desk c.args.now caller
-    (SetSlug c.args.page c.args.slug.now) asked refl
+    (SetSlug c.args.page c.args.slug.now) asked
     (slug_rules world.tree c.args.page c.args.slug.now)
     (slug_own world desk c.args.now caller c.args.page c.args.slug.now)
     (AreNewUrls world.tree c.args.page c.args.slug.now) c.in-Err.fault
@@ -40,6 +40,7 @@ returns-clause-plan c = λ world desk caller asked.
       pages = c.reserve.ensures.pages;
       revisions = refl;
       lists = record { users = refl; groups = refl; members = refl; grants = refl };
+      flows = record { tasks = refl; workflows = refl };
       desks = refl;
       time = refl;
       next_page = refl;

@@ -47,7 +47,7 @@ kept_then : (c : goal.After-put_at) →
     c.self.inside.stored.entries c.self.inside.order.items))
 kept_then c =
     let p = c.parent_of-parent.result in
-    let new : StoredRow = record { row = c.args.row; url = c.args.url; parent = Some p; counted = false } in
+    let new : StoredRow = record { row = c.args.row; url = c.args.url; parent = c.page.result; counted = false } in
     let is = subst (λ (v : RowList). IsNewRow v.pages c.args.row) (sym c.self.view_is) c.requires.new in
     let found = parent_by_path _ c.args.row.path _ _ p c.as_slice.ensures.value c.self.view_is
     c.parent_of-parent.ensures in
@@ -57,8 +57,8 @@ kept_then c =
     let index = index_then _ _ c.self.inside.kids c.add.new.self _ c.args.row.id p c.args.row.slug _
     c.self.invariant is.new_id c.key_of_kid-key.ensures c.add.ensures.added in
     rw (c.put_at.ensures.items, place)
-    (insert_kept _ _ _ _ c.self.inside.kids c.add.new.self _ new p c.self.invariant is found (λ i. Some
-    p) fits (λ i. false) c.add_kid.ensures.others c.put.ensures.updates.0 index)
+    (insert_kept _ _ _ _ c.self.inside.kids c.add.new.self _ new p c.self.invariant is found
+    c.page.ensures fits (λ i. false) c.add_kid.ensures.others c.put.ensures.updates.0 index)
 
 pub add_kid-requires : goal.add_kid-requires
 add_kid-requires c = few_kids _ _ _ _ c.self.invariant c.parent_of-parent.result

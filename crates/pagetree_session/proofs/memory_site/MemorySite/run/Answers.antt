@@ -6,20 +6,18 @@ use Rattle.pagetree_session.proofs.memory_site.MemorySite.run.Goals as goal
 
 pub returns-in-Ok-clause-ok : goal.returns-in-Ok-clause-ok
 returns-in-Ok-clause-ok c = λ tally ready.
-    let built = sym c.is_built.ensures ∙ c.if-not-is_built.false in
     let made = c.in-Ok.ensures.plan tally.world (core_ready c.args.self.now tally ready) c.requires.fits
     in
     let stands = c.commit-reply.ensures.stands tally.world c.args.now c.args.user c.args.command made in
     let in_range = subst IsMoment c.get.ensures.value c.get.ensures.range in
-    answers_accepted tally c.args.user c.args.now c.args.command made.after _ built
+    answers_accepted tally c.args.user c.args.now c.args.command made.after _
     (made.step ∙ ap (λ r. Ok (made.after, r)) (sym (c.commit-reply.ensures.told ∙ made.reply_is)))
     _ ready.reached in_range c.requires.fits stands (ap (λ n. n + 1) ready.stands.number)
 
 pub returns-clause-ok : goal.returns-clause-ok
 returns-clause-ok c = λ tally ready.
-    let built = sym c.is_built.ensures ∙ c.if-not-is_built.false in
     let made = c.in-Err.ensures.plan tally.world (core_ready c.args.self.now tally ready) c.requires.fits
     in
     rw c.refused.ensures
     (answers_fault_told tally c.args.user c.args.now c.args.command c.args.self.now
-    c.prepare.new.self c.in-Err.fault built ready made c.in-Err.ensures.same)
+    c.prepare.new.self c.in-Err.fault ready made c.in-Err.ensures.same)

@@ -1,5 +1,5 @@
 -- No part has a desk.
-use Rattle.std.proofs.Common.{◌≤◌, arith}
+use Rattle.std.proofs.Common.{arith}
 use Rattle.site_core.proofs.PartLemmas.{all_empty, empty_lists, empty_stripes}
 use Rattle.site_core.proofs.KeptLemmas.{none_kept}
 use Rattle.site_core.proofs.desk_parts.DeskParts.new.Goals as goal

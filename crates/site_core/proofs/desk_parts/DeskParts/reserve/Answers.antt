@@ -1,9 +1,9 @@
 -- One part has more room.
-use Rattle.std.proofs.Common.{◌≡◌, ◌≤◌, get_or, set, map, refl, sym, ap, subst, ◌∙◌, arith}
+use Rattle.std.proofs.Common.{◌≤◌, sym, ap, subst, ◌∙◌}
 use Rattle.std.specs.Result.{OnOk}
 use Rattle.std.proofs.lemmas.List as lists
 use Rattle.std.proofs.Math.Seq.{map-set_same}
-use Rattle.site_core.specs.Texts.{DeskLists, InStripes, room_for}
+use Rattle.site_core.specs.Texts.{DeskLists, InStripes}
 use Rattle.site_core.proofs.PartLemmas.{room_set}
 use Rattle.site_core.proofs.desk_parts.DeskParts.reserve.Goals as goal
 

@@ -1,8 +1,7 @@
 -- One part has another text.
-use Rattle.std.proofs.Common.{◌<◌, length, refl, sym, ap, subst, ◌∙◌, arith}
+use Rattle.std.proofs.Common.{sym, ap, ◌∙◌}
 use Rattle.std.proofs.lemmas.List as lists
 use Rattle.desks.specs.Desks.{with_text}
-use Rattle.site_model.specs.Parts.{stripe_of}
 use Rattle.site_core.specs.Texts.{DeskLists, kept_on}
 use Rattle.site_core.proofs.PartLemmas.{lists_set, stripes_set, seen_within, in_with_text}
 use Rattle.site_core.proofs.KeptLemmas.{kept_saved}

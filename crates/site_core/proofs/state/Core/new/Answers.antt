@@ -11,24 +11,27 @@ returns c =
       rows = c.in_ok-rows.rows;
       shelf = c.new-3.result;
       grants = c.define_user.new.self;
-      desk_pairs = c.new-4.result;
+      flows = c.new-4.result;
+      desk_pairs = c.new-5.result;
       time = c.in-Some.time;
       next_page = 2;
       next_revision = 1;
-      times = c.new-5.result;
-      aliases = c.new-6.result;
-      links = c.new-7.result;
+      times = c.new-6.result;
+      aliases = c.new-7.result;
+      links = c.new-8.result;
     } in
-    let step : InStep part = start_in_step part c.in_ok-rows.ensures c.new-5.ensures.expiries
-    c.new-5.ensures.go_lives c.new-6.ensures.pairs in
-    let linked : IsLinked part = start_linked part c.in_ok-rows.ensures c.new-7.ensures.pairs in
+    let step : InStep part = start_in_step part c.in_ok-rows.ensures c.new-6.ensures.expiries
+    c.new-6.ensures.go_lives c.new-7.ensures.pairs in
+    let linked : IsLinked part = start_linked part c.in_ok-rows.ensures c.new-8.ensures.pairs in
     record {
       tree = record {
         pages = search rules;
         revisions = search rules;
         lists = search rules;
-        no_tasks = refl;
-        no_workflows = refl;
+        flows = record {
+          tasks = c.new-4.ensures.tasks;
+          workflows = c.new-4.ensures.workflows;
+        };
         desks = search rules;
         time = search rules;
         next_page = refl;

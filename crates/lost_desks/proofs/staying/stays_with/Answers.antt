@@ -1,0 +1,17 @@
+-- What is kept of the page decides, but for its moderation.
+use Rattle.std.proofs.Common.{◌∙◌}
+use Rattle.grants.proofs.LiveLemmas.{body_found, body_missing}
+use Rattle.lost_desks.proofs.StayLemmas.{gone_loses_with, stays_by_with}
+use Rattle.lost_desks.proofs.staying.stays_with.Goals as goal
+
+pub returns-in_default : goal.returns-in_default
+returns-in_default c world has =
+    gone_loses_with world c.args.page c.args.user c.args.moderation
+    (body_missing c.args.part.now.rows.pages world.tree has.pages c.args.page c.in_default.ensures)
+
+pub returns : goal.returns
+returns c world has =
+    c.may_work.ensures world has
+    ∙ stays_by_with world c.args.page c.args.user c.in-Some.row.now.body c.args.moderation
+    (body_found c.args.part.now.rows.pages world.tree has.pages c.args.page c.in-Some.row.now
+    c.in-Some.ensures)

@@ -1,0 +1,9 @@
+pub mod NearestLemmas
+pub mod EventLemmas
+pub mod Steps
+pub mod Planned
+pub mod Facts
+pub mod Counts
+pub mod DefinePlans
+pub mod AssignPlans
+pub mod AnswerPlans

@@ -1,0 +1,5 @@
+pub mod Nearest
+pub mod Events
+pub mod Asked
+pub mod Plans
+pub mod Moderated

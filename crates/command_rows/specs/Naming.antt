@@ -1,5 +1,5 @@
 -- That a command's pages are there: its first two rules do not refuse it.
-use Rattle.std.specs.Prelude.{◌≡◌, Option, None}
+use Rattle.std.specs.Prelude.{◌≡◌, None}
 use Rattle.page_tree.specs.Tree.{Forest}
 use Rattle.site_types.specs.declared.body.Body.{Body}
 use Rattle.site_types.specs.declared.command.Command.{Command}

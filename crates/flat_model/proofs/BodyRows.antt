@@ -11,7 +11,7 @@ use Rattle.tree_model.proofs.PageLemmas.{AllPages-weaker}
 use Rattle.site_model.specs.Bodies.{rebodied}
 use Rattle.site_model.specs.Views.{first_body, body_of}
 use Rattle.site_model.proofs.BodyLemmas.{AllPages-found}
-use Rattle.flat_model.proofs.KeptPages.{same_body}
+use Rattle.site_model.proofs.RegularLemmas.{same_body}
 
 -- what is put into a list's front and its back is put into it
 map_append : {X Y : Type 0} (f : X → Y) (xs ys : List X) → map f (xs ++ ys) ≡ map f xs ++ map f ys

@@ -27,22 +27,22 @@ use Rattle.site_model.specs.Views.{body_of}
 use Rattle.site_model.proofs.ContentLemmas.{contents_length-append, within_room, past_room, within, past}
 use Rattle.site_model.proofs.KeptLemmas.{both_hold}
 use Rattle.site_model.proofs.LosingEnds.{ends_own}
+use Rattle.site_model.proofs.RegularLemmas.{kept_there}
 use Rattle.flat_model.specs.Flat.{people_of, lists_of}
 use Rattle.flat_model.specs.Single.{body_change}
 use Rattle.flat_model.specs.declared.change.Change.{Change}
 use Rattle.flat_model.proofs.ListLemmas.{lists_are, none_out, quiet_people}
-use Rattle.grants.specs.Plans.{Prepares, HasPlan, left_by, pages_of}
-use Rattle.grants.specs.Standing.{IsReady}
-use Rattle.grants.specs.declared.fault.Fault.{Fault}
-use Rattle.grants.specs.declared.fault.Fault.TheVariants.{Refused, Memory}
-use Rattle.grants.specs.declared.part.TreePart.{TreePart}
-use Rattle.grants.specs.declared.plan.Plan.{Plan}
-use Rattle.grants.proofs.StepLemmas.{own_refuses, pairs_agree}
+use Rattle.site_part.specs.Plans.{Prepares, HasPlan, left_by, pages_of}
+use Rattle.site_part.specs.Standing.{IsReady}
+use Rattle.site_part.specs.declared.fault.Fault.{Fault}
+use Rattle.site_part.specs.declared.fault.Fault.TheVariants.{Refused, Memory}
+use Rattle.site_part.specs.declared.part.TreePart.{TreePart}
+use Rattle.site_part.specs.declared.plan.Plan.{Plan}
+use Rattle.site_part.proofs.StepLemmas.{own_refuses, pairs_agree}
 use Rattle.moderating.specs.Asked.{IsAsked}
 use Rattle.moderating.specs.Plans.{Plans, Tells, ending_plan}
 use Rattle.flow_edits.specs.Plans.{revision_of, filed_body, filing_plan}
 use Rattle.flat_model.proofs.BodyRows.{rebodied_rows}
-use Rattle.flat_model.proofs.KeptPages.{kept_there}
 use Rattle.flow_edits.proofs.OpenPlans.{is_callers, callers_page}
 use Rattle.moderating.proofs.Planned.{planned, prepared, row_there}
 use Rattle.moderating.proofs.Steps.{part_left, ends_step}

@@ -22,13 +22,13 @@ use Rattle.site_model.specs.Users.{agree, is_membership, is_grant, members_after
 use Rattle.site_model.proofs.LosingEnds.{ends_none, member_ends, grant_ends}
 use Rattle.flat_model.specs.Flat.{people_of}
 use Rattle.flat_model.specs.declared.change.PeopleChange.TheVariants as changes
-use Rattle.grants.specs.Plans.{Prepares, pages_of}
-use Rattle.grants.specs.Standing.{IsSame}
-use Rattle.grants.specs.declared.fault.Fault.{Fault}
-use Rattle.grants.specs.declared.part.TreePart.{TreePart}
-use Rattle.grants.specs.declared.plan.Plan.{Plan}
-use Rattle.grants.proofs.StandingLemmas.{same_ready}
-use Rattle.grants.proofs.StepLemmas.{own_refuses, pairs_agree}
+use Rattle.site_part.specs.Plans.{Prepares, pages_of}
+use Rattle.site_part.specs.Standing.{IsSame}
+use Rattle.site_part.specs.declared.fault.Fault.{Fault}
+use Rattle.site_part.specs.declared.part.TreePart.{TreePart}
+use Rattle.site_part.specs.declared.plan.Plan.{Plan}
+use Rattle.site_part.proofs.StandingLemmas.{same_ready}
+use Rattle.site_part.proofs.StepLemmas.{own_refuses, pairs_agree}
 use Rattle.moderating.specs.Asked.{IsAsked}
 use Rattle.flow_edits.specs.People.{ReadiesPlan, member_lost, grant_lost}
 use Rattle.flow_edits.proofs.PeoplePlans.{people_planned}

@@ -18,11 +18,11 @@ use Rattle.site_model.specs.Views.{body_of}
 use Rattle.site_model.proofs.LosingEnds.{ends_none}
 use Rattle.site_model.proofs.LosingFacts.{lock_ends_others}
 use Rattle.flat_model.specs.Single.{body_change}
-use Rattle.grants.specs.Plans.{Prepares, pages_of}
-use Rattle.grants.specs.declared.fault.Fault.{Fault}
-use Rattle.grants.specs.declared.part.TreePart.{TreePart}
-use Rattle.grants.specs.declared.plan.Plan.{Plan}
-use Rattle.grants.proofs.StepLemmas.{own_refuses, pairs_agree}
+use Rattle.site_part.specs.Plans.{Prepares, pages_of}
+use Rattle.site_part.specs.declared.fault.Fault.{Fault}
+use Rattle.site_part.specs.declared.part.TreePart.{TreePart}
+use Rattle.site_part.specs.declared.plan.Plan.{Plan}
+use Rattle.site_part.proofs.StepLemmas.{own_refuses, pairs_agree}
 use Rattle.moderating.specs.Asked.{IsAsked}
 use Rattle.moderating.specs.Plans.{ending_plan, Plans}
 use Rattle.moderating.proofs.Planned.{prepared, body_planned, fields_same}

@@ -24,12 +24,12 @@ use Rattle.flat_model.specs.Flat.{people_of, lists_of}
 use Rattle.flat_model.specs.Single.{tree_change}
 use Rattle.flat_model.specs.declared.change.TreeChange.TheVariants.{Nothing}
 use Rattle.flat_model.proofs.ListLemmas.{lists_are, quiet_revisions, quiet_people}
-use Rattle.grants.specs.Plans.{Prepares, HasPlan, left_by, pages_of}
-use Rattle.grants.specs.Standing.{IsReady}
-use Rattle.grants.specs.declared.fault.Fault.{Fault}
-use Rattle.grants.specs.declared.fault.Fault.TheVariants.{Refused, Memory}
-use Rattle.grants.specs.declared.part.TreePart.{TreePart}
-use Rattle.grants.proofs.StepLemmas.{own_refuses, passed_step, pairs_agree}
+use Rattle.site_part.specs.Plans.{Prepares, HasPlan, left_by, pages_of}
+use Rattle.site_part.specs.Standing.{IsReady}
+use Rattle.site_part.specs.declared.fault.Fault.{Fault}
+use Rattle.site_part.specs.declared.fault.Fault.TheVariants.{Refused, Memory}
+use Rattle.site_part.specs.declared.part.TreePart.{TreePart}
+use Rattle.site_part.proofs.StepLemmas.{own_refuses, passed_step, pairs_agree}
 use Rattle.moderating.specs.Asked.{IsAsked}
 use Rattle.moderating.specs.Plans.{Tells, ending_plan}
 use Rattle.flow_edits.specs.Plans.{opening_plan}

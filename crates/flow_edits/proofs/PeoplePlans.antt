@@ -22,13 +22,13 @@ use Rattle.flat_model.specs.Single.{people_change}
 use Rattle.flat_model.specs.declared.change.PeopleChange.{PeopleChange}
 use Rattle.flat_model.specs.declared.change.PeopleChange.TheVariants as changes
 use Rattle.flat_model.proofs.ListLemmas.{lists_are, quiet_revisions, quiet_people}
-use Rattle.grants.specs.Plans.{Prepares, HasPlan, people_needed, left_by, pairs_left, pages_of}
-use Rattle.grants.specs.Standing.{IsReady, IsSame}
-use Rattle.grants.specs.declared.fault.Fault.{Fault}
-use Rattle.grants.specs.declared.part.TreePart.{TreePart}
-use Rattle.grants.specs.declared.plan.Plan.{Plan}
-use Rattle.grants.proofs.StandingLemmas.{same_ready}
-use Rattle.grants.proofs.StepLemmas.{own_refuses}
+use Rattle.site_part.specs.Plans.{Prepares, HasPlan, people_needed, left_by, pairs_left, pages_of}
+use Rattle.site_part.specs.Standing.{IsReady, IsSame}
+use Rattle.site_part.specs.declared.fault.Fault.{Fault}
+use Rattle.site_part.specs.declared.part.TreePart.{TreePart}
+use Rattle.site_part.specs.declared.plan.Plan.{Plan}
+use Rattle.site_part.proofs.StandingLemmas.{same_ready}
+use Rattle.site_part.proofs.StepLemmas.{own_refuses}
 use Rattle.moderating.specs.Asked.{IsAsked}
 use Rattle.flow_edits.specs.People.{ReadiesPlan}
 use Rattle.moderating.specs.Plans.{ending_plan}

@@ -8,8 +8,8 @@ use Rattle.site_types.specs.declared.world_rows.Grant.{Grant as PageGrant}
 use Rattle.site_model.specs.World as worlds
 use Rattle.site_model.specs.Limits.{MAX_GRANTS}
 use Rattle.site_model.specs.Users.{is_grant, grant_key, grant_of, put_in, grants_after}
-use Rattle.grants.specs.declared.part.TreePart.{TreePart}
-use Rattle.grants.specs.Standing.{IsReady}
+use Rattle.site_part.specs.declared.part.TreePart.{TreePart}
+use Rattle.site_part.specs.Standing.{IsReady}
 
 -- one grant more
 length_put : {X : Type 0} (key : X → List ℕ) (new : X) (items : List X) →

@@ -20,11 +20,11 @@ use Rattle.site_model.specs.Views.{body_of}
 use Rattle.site_model.proofs.LosingAnswers.{publish_ends}
 use Rattle.site_model.proofs.LosingEnds.{ends_none}
 use Rattle.flat_model.specs.Single.{body_change}
-use Rattle.grants.specs.Plans.{Prepares, HasPlan, pages_of}
-use Rattle.grants.specs.declared.fault.Fault.{Fault}
-use Rattle.grants.specs.declared.part.TreePart.{TreePart}
-use Rattle.grants.specs.declared.plan.Plan.{Plan}
-use Rattle.grants.proofs.StepLemmas.{own_refuses, pairs_agree}
+use Rattle.site_part.specs.Plans.{Prepares, HasPlan, pages_of}
+use Rattle.site_part.specs.declared.fault.Fault.{Fault}
+use Rattle.site_part.specs.declared.part.TreePart.{TreePart}
+use Rattle.site_part.specs.declared.plan.Plan.{Plan}
+use Rattle.site_part.proofs.StepLemmas.{own_refuses, pairs_agree}
 use Rattle.moderating.specs.Asked.{IsAsked}
 use Rattle.moderating.specs.Plans.{ending_plan, Plans}
 use Rattle.flow_edits.specs.Plans.{published_by_command}

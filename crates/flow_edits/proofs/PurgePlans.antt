@@ -24,10 +24,10 @@ use Rattle.flat_model.specs.declared.change.Change.{Change}
 use Rattle.flat_model.specs.declared.change.Purge.{Purge}
 use Rattle.flat_model.specs.declared.change.TreeChange.TheVariants.{Nothing}
 use Rattle.flat_model.proofs.ListLemmas.{lists_are, none_out, quiet_people}
-use Rattle.grants.specs.Plans.{HasPlan, left_by}
-use Rattle.grants.specs.declared.part.TreePart.{TreePart}
-use Rattle.grants.specs.declared.plan.Plan.{Plan}
-use Rattle.grants.proofs.StepLemmas.{own_refuses}
+use Rattle.site_part.specs.Plans.{HasPlan, left_by}
+use Rattle.site_part.specs.declared.part.TreePart.{TreePart}
+use Rattle.site_part.specs.declared.plan.Plan.{Plan}
+use Rattle.site_part.proofs.StepLemmas.{own_refuses}
 use Rattle.moderating.specs.Asked.{IsAsked}
 use Rattle.moderating.specs.Plans.{ending_plan}
 use Rattle.flow_edits.specs.Plans.{purge_of, taken}

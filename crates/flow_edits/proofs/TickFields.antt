@@ -8,6 +8,7 @@ use Rattle.site_types.specs.declared.revision.Revision.{Revision}
 use Rattle.site_model.specs.Publishing.{has_expired, published_body}
 use Rattle.site_model.specs.Ticks as ticks
 use Rattle.site_model.specs.Ticks.{DuePage, due_by}
+use Rattle.site_model.proofs.RegularLemmas.{same_body}
 use Rattle.page_store.specs.Pages.{Page}
 use Rattle.publishing.specs.Times.{body_in, named, expiry_of}
 use Rattle.publishing.specs.Ticks.{expiring_in, going_live_in}
@@ -15,7 +16,6 @@ use Rattle.publishing.specs.Ticked.{has_come, after_expiry, gone_live, after_go_
 use Rattle.publishing.specs.Bodies.{expired_body}
 use Rattle.time_table.proofs.EntryLemmas.{eq_turned}
 use Rattle.publishing.proofs.BodyLemmas.{eq_means}
-use Rattle.flat_model.proofs.KeptPages.{same_body}
 use Rattle.flow_edits.proofs.TickRows.{fields_by}
 
 -- what becomes of a page that stops being live

@@ -23,10 +23,10 @@ use Rattle.publishing.specs.Ticks.{due_of, IsTickPlan}
 use Rattle.publishing.specs.Ticked.{ticked_body}
 use Rattle.publishing.specs.declared.due.TickPlan.{TickPlan}
 use Rattle.publishing.proofs.DueLaws.{due_in_world}
-use Rattle.grants.specs.Plans.{HasPlan, left_by}
-use Rattle.grants.specs.declared.part.TreePart.{TreePart}
-use Rattle.grants.specs.declared.plan.Plan.{Plan}
-use Rattle.grants.proofs.StepLemmas.{own_refuses}
+use Rattle.site_part.specs.Plans.{HasPlan, left_by}
+use Rattle.site_part.specs.declared.part.TreePart.{TreePart}
+use Rattle.site_part.specs.declared.plan.Plan.{Plan}
+use Rattle.site_part.proofs.StepLemmas.{own_refuses}
 use Rattle.moderating.specs.Asked.{IsAsked}
 use Rattle.moderating.specs.Plans.{ending_plan}
 use Rattle.flow_edits.specs.Plans.{bodies_change, ticking_plan}

@@ -8,10 +8,10 @@ use Rattle.site_model.specs.Losing.{DesksOf, DesksBelow, is_suspect}
 use Rattle.site_model.specs.Users.{with_member, with_grant}
 use Rattle.flat_model.specs.Single.{people_change}
 use Rattle.flat_model.specs.declared.change.PeopleChange.{PeopleChange}
-use Rattle.grants.specs.declared.fault.Fault.{Fault}
-use Rattle.grants.specs.declared.fault.Fault.TheVariants.{Memory}
-use Rattle.grants.specs.declared.part.TreePart.{TreePart}
-use Rattle.grants.specs.declared.plan.Plan.{Plan}
+use Rattle.site_part.specs.declared.fault.Fault.{Fault}
+use Rattle.site_part.specs.declared.fault.Fault.TheVariants.{Memory}
+use Rattle.site_part.specs.declared.part.TreePart.{TreePart}
+use Rattle.site_part.specs.declared.plan.Plan.{Plan}
 use Rattle.moderating.specs.Plans.{ending_plan}
 
 -- A plan with this reply, which opens no desk, ends those on these pages, and changes users,

@@ -12,8 +12,8 @@ use Rattle.flat_model.specs.Single.{tree_change, body_change}
 use Rattle.flat_model.specs.declared.change.Change.{Change}
 use Rattle.flat_model.specs.declared.change.Purge.{Purge}
 use Rattle.flat_model.specs.declared.change.TreeChange.TheVariants.{Nothing}
-use Rattle.grants.specs.Plans.{quiet_plan}
-use Rattle.grants.specs.declared.plan.Plan.{Plan}
+use Rattle.site_part.specs.Plans.{quiet_plan}
+use Rattle.site_part.specs.declared.plan.Plan.{Plan}
 use Rattle.moderating.specs.Plans.{ending_plan}
 
 -- the purge of a page of which this is kept

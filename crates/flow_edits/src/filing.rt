@@ -8,15 +8,15 @@ ghost use Rattle.site_types.specs.declared.command.Command.TheVariants as comman
 ghost use Rattle.site_model.specs.World as worlds;
 ghost use Rattle.site_model.specs.Desks as desks;
 ghost use Rattle.site_model.specs.Views as views;
-ghost use Rattle.grants.specs.Plans.{Prepares};
-ghost use Rattle.grants.specs.Standing.{IsReady, IsSame};
+ghost use Rattle.site_part.specs.Plans.{Prepares};
+ghost use Rattle.site_part.specs.Standing.{IsReady, IsSame};
 ghost use Rattle.moderating.specs.Asked.{IsAsked};
 ghost use Rattle.moderating.specs.Plans.{Plans, Tells};
 ghost use Rattle.flow_edits.specs.Plans.{revision_of, filed_body, filing_plan};
 
-use grants::{Change, Fault, Plan, TreePart};
 use moderating::{after_filing, body_of, ending, later, latest_of, one_page, same_moment};
 use revision_shelf::MAX_CONTENT_SUM;
+use site_part::{Change, Fault, Plan, TreePart};
 use site_types::{
     Body, Content, Items, Moment, NoMemory, PageId, Refusal, Reply, Revision, RevisionId, UserId,
 };

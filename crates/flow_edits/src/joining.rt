@@ -8,15 +8,15 @@ ghost use Rattle.site_model.specs.World as worlds;
 ghost use Rattle.site_model.specs.Limits.{MAX_GRANTS as grants_limit};
 ghost use Rattle.site_model.specs.Rules.{is_given};
 ghost use Rattle.site_model.specs.Users.{agree, is_membership, is_grant, grants_after};
-ghost use Rattle.grants.specs.Plans.{Prepares, pages_of};
-ghost use Rattle.grants.specs.Standing.{IsReady, IsSame};
+ghost use Rattle.site_part.specs.Plans.{Prepares, pages_of};
+ghost use Rattle.site_part.specs.Standing.{IsReady, IsSame};
 ghost use Rattle.moderating.specs.Asked.{IsAsked};
 ghost use Rattle.flow_edits.specs.People.{member_lost, grant_lost};
 
 use crate::people::ready_plan;
-use grants::{Fault, PeopleChange, Plan, TreePart};
 use lost_desks::{lost_by_leaving, lost_by_withdrawal};
 use moderating::no_pages;
+use site_part::{Fault, PeopleChange, Plan, TreePart};
 use site_types::{
     GroupId, Ids, Moment, NameKind, NoMemory, PageId, Permission, Refusal, Reply, UserId,
 };

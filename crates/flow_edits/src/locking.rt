@@ -3,13 +3,13 @@ ghost use Rattle.std.specs.Prelude.{ℕ, Option};
 ghost use Rattle.site_types.specs.Content.{ContentValue};
 ghost use Rattle.site_types.specs.declared.command.Command.TheVariants as commands;
 ghost use Rattle.site_model.specs.World as worlds;
-ghost use Rattle.grants.specs.Plans.{Prepares};
+ghost use Rattle.site_part.specs.Plans.{Prepares};
 ghost use Rattle.moderating.specs.Asked.{IsAsked};
 
-use grants::{Fault, Plan, TreePart};
 use lost_desks::lost_by_lock;
 use moderating::{body_plan, kept_of, later, no_pages};
 use publishing::{locked_body, unlocked_body};
+use site_part::{Fault, Plan, TreePart};
 use site_types::{Moment, PageId, Refusal, Reply, UserId};
 use std::alloc::Global;
 

@@ -6,14 +6,14 @@ ghost use Rattle.site_types.specs.declared.command.Command.TheVariants as comman
 ghost use Rattle.site_model.specs.World as worlds;
 ghost use Rattle.site_model.specs.Bodies.{latest_content};
 ghost use Rattle.site_model.specs.Desks.{open_rules};
-ghost use Rattle.grants.specs.Plans.{Prepares};
-ghost use Rattle.grants.specs.Standing.{IsSame};
+ghost use Rattle.site_part.specs.Plans.{Prepares};
+ghost use Rattle.site_part.specs.Standing.{IsSame};
 ghost use Rattle.moderating.specs.Asked.{IsAsked};
 ghost use Rattle.moderating.specs.Plans.{Tells};
 ghost use Rattle.flow_edits.specs.Plans.{opening_plan};
 
-use grants::{Change, Fault, Plan, TreeChange, TreePart};
 use moderating::{ending, later, latest_of, one_page};
+use site_part::{Change, Fault, Plan, TreeChange, TreePart};
 use site_types::{Content, Moment, PageId, Refusal, Reply, UserId};
 use std::alloc::Global;
 

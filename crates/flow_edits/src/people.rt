@@ -3,14 +3,14 @@ ghost use Rattle.std.specs.Prelude.{◌≡◌, ℕ, Option};
 ghost use Rattle.site_types.specs.Content.{ContentValue};
 ghost use Rattle.site_types.specs.declared.command.Command.TheVariants as commands;
 ghost use Rattle.site_model.specs.World as worlds;
-ghost use Rattle.grants.specs.Plans.{Prepares};
-ghost use Rattle.grants.specs.Standing.{IsSame};
+ghost use Rattle.site_part.specs.Plans.{Prepares};
+ghost use Rattle.site_part.specs.Standing.{IsSame};
 ghost use Rattle.moderating.specs.Asked.{IsAsked};
 ghost use Rattle.flow_edits.specs.People.{ReadiesPlan};
 
-use grants::{Change, Fault, PeopleChange, Plan, TreePart};
 use moderating::{ending, later, no_pages};
 use site_ids::{LAST_GROUP_ID, LAST_USER_ID};
+use site_part::{Change, Fault, PeopleChange, Plan, TreePart};
 use site_types::{Digest, Ids, Moment, Refusal, Reply};
 use std::alloc::Global;
 

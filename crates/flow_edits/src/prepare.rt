@@ -2,8 +2,8 @@
 ghost use Rattle.std.specs.Prelude.{◌≡◌, ℕ, true};
 ghost use Rattle.std.specs.Option.{option_copied};
 ghost use Rattle.site_model.specs.World as worlds;
-ghost use Rattle.grants.specs.Standing.{IsSame};
-ghost use Rattle.grants.specs.Plans.{Prepares};
+ghost use Rattle.site_part.specs.Standing.{IsSame};
+ghost use Rattle.site_part.specs.Plans.{Prepares};
 ghost use Rattle.moderating.specs.Asked.{IsGiven, IsAsked};
 ghost use Rattle.flow_edits.specs.Asked.{is_flow};
 
@@ -15,11 +15,11 @@ use crate::people::{plan_group, plan_user};
 use crate::publication::{plan_publish, plan_unpublish, plan_unschedule};
 use crate::purging::plan_purge;
 use crate::ticking::plan_tick;
-use grants::{Fault, Plan, TreePart, front};
 use moderating::{
     plan_approval, plan_assignment, plan_cancelling, plan_rejection, plan_submission, plan_task,
     plan_workflow,
 };
+use site_part::{Fault, Plan, TreePart, front};
 use site_types::{Command, Content, Moment, UserId};
 use std::alloc::Global;
 

@@ -4,16 +4,16 @@ ghost use Rattle.site_types.specs.Content.{ContentValue};
 ghost use Rattle.site_types.specs.declared.command.Command.TheVariants as commands;
 ghost use Rattle.site_model.specs.World as worlds;
 ghost use Rattle.site_model.specs.Publishing as model;
-ghost use Rattle.grants.specs.Plans.{Prepares};
+ghost use Rattle.site_part.specs.Plans.{Prepares};
 ghost use Rattle.moderating.specs.Asked.{IsAsked};
 ghost use Rattle.flow_edits.specs.Plans.{published_by_command};
 
-use grants::{Fault, Plan, TreePart};
 use lost_desks::lost_by_moderation;
 use moderating::{
     after_publishing, body_plan, is_late, kept_of, later, latest_of, no_pages, same_revision,
 };
 use publishing::{published_body, unpublished_body, unscheduled_body, waits};
+use site_part::{Fault, Plan, TreePart};
 use site_types::{Body, Moment, PageId, Refusal, Reply, Revision};
 use std::alloc::Global;
 use workflow::Flows;

@@ -4,14 +4,14 @@ ghost use Rattle.std.specs.Option.{option_copied};
 ghost use Rattle.site_types.specs.Content.{ContentValue};
 ghost use Rattle.site_types.specs.declared.command.Command.TheVariants as commands;
 ghost use Rattle.site_model.specs.World as worlds;
-ghost use Rattle.grants.specs.Plans.{Prepares};
+ghost use Rattle.site_part.specs.Plans.{Prepares};
 ghost use Rattle.moderating.specs.Asked.{IsAsked};
 ghost use Rattle.flow_edits.specs.Plans.{purge_of, is_taken, taken, counted};
 
 use flat_model::Purge;
-use grants::{Change, Fault, Plan, TreeChange, TreePart};
 use moderating::{ending, kept_of, later, no_pages, same_revision};
 use revision_shelf::Shelf;
+use site_part::{Change, Fault, Plan, TreeChange, TreePart};
 use site_types::{Body, Moment, PageId, Refusal, Reply, Revision};
 use std::alloc::Global;
 

@@ -3,13 +3,13 @@ ghost use Rattle.std.specs.Prelude.{ℕ, Option, ◌≡◌};
 ghost use Rattle.site_types.specs.Content.{ContentValue};
 ghost use Rattle.site_types.specs.declared.command.Command.TheVariants as commands;
 ghost use Rattle.site_model.specs.World as worlds;
-ghost use Rattle.grants.specs.Plans.{Prepares};
+ghost use Rattle.site_part.specs.Plans.{Prepares};
 ghost use Rattle.moderating.specs.Asked.{IsAsked};
 ghost use Rattle.flow_edits.specs.Plans.{ticking_plan};
 
-use grants::{Change, Fault, Plan, TreeChange, TreePart};
 use moderating::{ending, later, no_pages};
 use publishing::{TickPlan, tick_bodies, tick_plan};
+use site_part::{Change, Fault, Plan, TreeChange, TreePart};
 use site_types::{Body, Items, Moment, PageId, Refusal, Reply};
 use std::alloc::Global;
 

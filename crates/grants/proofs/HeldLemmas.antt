@@ -13,8 +13,7 @@ use Rattle.site_types.specs.declared.world_rows.UserRow.{UserRow}
 use Rattle.site_model.specs.Rights.{gives, is_same, is_superuser, is_granted, held}
 use Rattle.site_model.proofs.RightLemmas.{held_by_walks}
 use Rattle.grants.specs.declared.right.Held.{Held}
-use Rattle.grants.specs.Granted.{held_where, held_either, gives_any}
-use Rattle.grants.specs.Needs.{seen_held}
+use Rattle.grants.specs.Granted.{held_where, held_either, gives_any, seen_held}
 
 -- tests that agree at each permission hold the same
 pub held_agree : (one other : Permission → Bool) → ((p : Permission) → one p ≡ other p) →

@@ -3,16 +3,7 @@ pub mod GrantLemmas
 pub mod CutLemmas
 pub mod UserLemmas
 pub mod SpanLemmas
-pub mod LiveLemmas
-pub mod AskingLemmas
-pub mod NeedLemmas
-pub mod CountedLemmas
-pub mod PassingLemmas
-pub mod OwnLemmas
+pub mod GroupLemmas
 pub mod UpLemmas
 pub mod AboveLemmas
 pub mod HeldLemmas
-pub mod StandingLemmas
-pub mod LeftLemmas
-pub mod StepLemmas
-pub mod FrontLemmas

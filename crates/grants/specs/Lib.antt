@@ -1,8 +1,3 @@
 pub mod Lists
 pub mod Kept
-pub mod Standing
-pub mod Live
-pub mod Stopping
-pub mod Needs
-pub mod Plans
 pub mod Granted

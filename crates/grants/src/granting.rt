@@ -194,7 +194,7 @@ fn is_same(other: &Grant, grant: &Grant) -> bool
 }
 
 /// The number of a permission, from 1 to 6.
-pub(crate) fn number(permission: Permission) -> u8
+pub fn number(permission: Permission) -> u8
     ensures { result ≡ permission_number permission }
 {
     match permission {

@@ -1,15 +1,18 @@
 //! Memberships.
-ghost use Rattle.std.specs.Prelude.{◌≡◌, ◌+◌, ◌<◌, ◌≤◌, [], ◌∷◌, slice_get, vec_len, vec_capacity};
+ghost use Rattle.std.specs.Prelude.{◌≡◌, ◌==◌, ◌+◌, ◌<◌, ◌≤◌, [], ◌∷◌, slice_get, vec_len, vec_capacity};
 ghost use Rattle.std.specs.Option.{option_map};
 ghost use Rattle.std.specs.List.{list_any};
 ghost use Rattle.page_tree.specs.Rows.{comes_before};
+ghost use Rattle.site_model.specs.Rights as rights;
 ghost use Rattle.site_model.specs.Users.{member_key, is_membership};
 ghost use Rattle.site_model.specs.Sound.{KeysRise};
 ghost use Rattle.flat_model.specs.People.{members_with};
 ghost use Rattle.desk_pairs.specs.Places.{place_of, search_told, passes};
+ghost use Rattle.grants.specs.Granted.{group_key};
 
 use crate::Grants;
 use crate::places::put;
+use crate::spans::{has_group, members_of};
 use site_types::{GroupId, Member, UserId};
 
 impl Grants {
@@ -33,6 +36,14 @@ impl Grants {
         ensures { result ≡ list_any (is_membership user group) self.now.members }
     {
         find(&self.members, user, group).is_ok()
+    }
+
+    /// Whether a user is a member of one of these groups. A search for each of them.
+    pub fn is_in_any(&self, user: UserId, groups: &[u32]) -> bool
+        ensures { result ≡ list_any (λ own. rights.has_group groups.now own)
+            (rights.groups_of self.now.members user) }
+    {
+        has_any(members_of(self.members.as_slice(), user), groups)
     }
 
     /// The membership at a place, rising by user and group, or `None` exactly at or past their
@@ -121,4 +132,18 @@ fn pair_at(members: &[Member], place: usize) -> Option<(UserId, GroupId)>
         Some(member) => Some((member.user, member.group)),
         None => None,
     }
+}
+
+/// Whether one of the memberships, which rise by group, is in one of these groups.
+fn has_any(members: &[Member], groups: &[u32]) -> bool
+    requires { KeysRise group_key members.now }
+    ensures { result
+        ≡ list_any (λ id. list_any (λ member. member.group == id) members.now) groups.now }
+{
+    for group in groups {
+        if has_group(members, *group) {
+            return true;
+        }
+    }
+    false
 }

@@ -9,9 +9,8 @@ ghost use Rattle.site_model.specs.World.{TreePart};
 ghost use Rattle.site_model.specs.Rights.{held, gives, is_same, groups_of};
 ghost use Rattle.site_model.specs.Users.{grant_key};
 ghost use Rattle.site_model.specs.Sound.{KeysRise};
-ghost use Rattle.grants.specs.Granted.{held_where, held_either, group_key, gives_any};
+ghost use Rattle.grants.specs.Granted.{held_where, held_either, group_key, gives_any, is_held, seen_held};
 ghost use Rattle.grants.specs.Lists.{ListsStandFor};
-ghost use Rattle.grants.specs.Needs.{is_held, seen_held};
 
 use crate::Grants;
 use crate::spans::{grants_at, has_group, members_of};
@@ -184,7 +183,7 @@ fn either(one: Held, other: Held) -> Held
 }
 
 /// Whether a permission is among those that are held.
-pub(crate) fn holds(held: Held, permission: Permission) -> bool
+pub fn holds(held: Held, permission: Permission) -> bool
     ensures { result ≡ is_held held permission }
 {
     match permission {

@@ -20,10 +20,9 @@ use Rattle.site_model.specs.Losing.{is_within}
 use Rattle.site_model.specs.LosingLaws.{from_page, between, edits_below, is_lost_below}
 use Rattle.site_model.proofs.ViewLemmas.{view_is}
 use Rattle.desk_pairs.specs.Pairs.{pair_of}
-use Rattle.grants.specs.declared.part.TreePart as memory
+use Rattle.site_part.specs.declared.part.TreePart as memory
 use Rattle.grants.specs.declared.right.Held.{Held}
-use Rattle.grants.specs.Granted.{held_where, held_either}
-use Rattle.grants.specs.Needs.{seen_held}
+use Rattle.grants.specs.Granted.{held_where, held_either, seen_held}
 use Rattle.grants.proofs.AboveLemmas.{ids_to, ids_above}
 use Rattle.grants.proofs.HeldLemmas.{held_agree, any_agree, any_kept}
 use Rattle.grants.proofs.UpLemmas.{walk_up}

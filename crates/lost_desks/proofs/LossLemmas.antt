@@ -7,7 +7,7 @@ use Rattle.site_model.specs.World.{DeskPair}
 use Rattle.site_model.specs.Desks.{desk_key, desk_user}
 use Rattle.site_model.specs.Sound.{KeysRise}
 use Rattle.desk_pairs.specs.Pairs.{pair_of}
-use Rattle.grants.specs.Plans.{pages_of}
+use Rattle.site_part.specs.Plans.{pages_of}
 use Rattle.lost_desks.specs.Losses.{page_lost, page_if}
 
 module _ (test : DeskPair → Bool) where

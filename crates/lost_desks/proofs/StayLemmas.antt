@@ -18,9 +18,9 @@ use Rattle.site_model.specs.LosingLaws.{stays_with}
 use Rattle.site_model.proofs.ViewLemmas.{view_is}
 use Rattle.desk_pairs.specs.Pairs.{pair_of}
 use Rattle.grants.specs.declared.right.Held.{Held}
-use Rattle.grants.specs.declared.part.TreePart as memory
-use Rattle.grants.specs.Needs.{seen_held}
-use Rattle.grants.specs.Standing.{IsReady}
+use Rattle.site_part.specs.declared.part.TreePart as memory
+use Rattle.grants.specs.Granted.{seen_held}
+use Rattle.site_part.specs.Standing.{IsReady}
 use Rattle.lost_desks.specs.Staying.{HasDesksOf, is_open_to, is_underway, keeps}
 
 -- a lock stops one exactly if it is another's

@@ -10,7 +10,7 @@ use Rattle.site_model.specs.Views.{View, stage_of, is_in_progress}
 use Rattle.site_model.specs.Desks.{keeps_desk}
 use Rattle.workflow.specs.Flows.{FlowsStandFor}
 use Rattle.grants.specs.Lists.{ListsStandFor}
-use Rattle.grants.specs.declared.part.TreePart.{TreePart}
+use Rattle.site_part.specs.declared.part.TreePart.{TreePart}
 
 -- What is in memory has the pages, the people, the grants, the tasks, the workflows and the open desks of
 -- a world.

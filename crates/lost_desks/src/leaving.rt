@@ -5,11 +5,11 @@ ghost use Rattle.site_model.specs.World as worlds;
 ghost use Rattle.site_model.specs.Desks as desks;
 ghost use Rattle.site_model.specs.Users.{is_membership, with_member};
 ghost use Rattle.site_model.specs.Losing.{is_suspect, DesksOf};
-ghost use Rattle.grants.specs.Plans.{pages_of};
-ghost use Rattle.grants.specs.Standing.{IsReady, IsSame};
+ghost use Rattle.site_part.specs.Plans.{pages_of};
+ghost use Rattle.site_part.specs.Standing.{IsReady, IsSame};
 
 use crate::loss::{Loss, lost_desks};
-use grants::TreePart;
+use site_part::TreePart;
 use site_types::{GroupId, Ids, NoMemory, UserId};
 use std::alloc::Global;
 

@@ -2,11 +2,11 @@
 ghost use Rattle.std.specs.Prelude.{◌≡◌, IfOk};
 ghost use Rattle.site_model.specs.World as worlds;
 ghost use Rattle.site_model.specs.LosingLaws.{desks_of_others};
-ghost use Rattle.grants.specs.Plans.{pages_of};
-ghost use Rattle.grants.specs.Standing.{IsReady};
+ghost use Rattle.site_part.specs.Plans.{pages_of};
+ghost use Rattle.site_part.specs.Standing.{IsReady};
 
 use crate::alone::{no_page, page_if};
-use grants::TreePart;
+use site_part::TreePart;
 use site_types::{Ids, NoMemory, PageId, UserId};
 use std::alloc::Global;
 

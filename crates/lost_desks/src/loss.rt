@@ -5,14 +5,14 @@ ghost use Rattle.site_model.specs.World as worlds;
 ghost use Rattle.site_model.specs.Losing as losing;
 ghost use Rattle.site_model.specs.Users.{is_membership};
 ghost use Rattle.desk_pairs.specs.Pairs.{pair_of};
-ghost use Rattle.grants.specs.Plans.{pages_of};
+ghost use Rattle.site_part.specs.Plans.{pages_of};
 ghost use Rattle.lost_desks.specs.Staying.{HasDesksOf};
 ghost use Rattle.lost_desks.specs.Losses.{HasParent, is_lost_by, page_lost};
 
 use crate::moving::is_lost_below;
 use crate::staying::stays;
 use crate::within::is_within;
-use grants::TreePart;
+use site_part::TreePart;
 use site_types::{GroupId, Ids, NoMemory, PageId, UserId};
 use std::alloc::Global;
 

@@ -2,12 +2,12 @@
 ghost use Rattle.std.specs.Prelude.{◌≡◌, IfOk};
 ghost use Rattle.site_model.specs.World as worlds;
 ghost use Rattle.site_model.specs.LosingLaws.{desks_lost_with};
-ghost use Rattle.grants.specs.Plans.{pages_of};
-ghost use Rattle.grants.specs.Standing.{IsReady};
+ghost use Rattle.site_part.specs.Plans.{pages_of};
+ghost use Rattle.site_part.specs.Standing.{IsReady};
 
 use crate::alone::{no_page, page_if};
 use crate::staying::stays_with;
-use grants::TreePart;
+use site_part::TreePart;
 use site_types::{Ids, Moderation, NoMemory, PageId};
 use std::alloc::Global;
 

@@ -9,13 +9,14 @@ ghost use Rattle.site_model.specs.Losing as losing;
 ghost use Rattle.site_model.specs.LosingLaws as laws;
 ghost use Rattle.desk_pairs.specs.Pairs.{pair_of};
 ghost use Rattle.grants.specs.Granted.{held_where, held_either};
-ghost use Rattle.grants.specs.Plans.{pages_of};
-ghost use Rattle.grants.specs.Standing.{IsReady};
+ghost use Rattle.site_part.specs.Plans.{pages_of};
+ghost use Rattle.site_part.specs.Standing.{IsReady};
 ghost use Rattle.lost_desks.specs.Staying.{HasDesksOf};
 
 use crate::loss::{Loss, lost_desks};
 use crate::within::is_within;
-use grants::{Held, TreePart};
+use grants::Held;
+use site_part::{TreePart, moderates};
 use site_types::{Body, Ids, NoMemory, PageId, UserId};
 use std::alloc::Global;
 
@@ -80,7 +81,7 @@ fn may_edit_below(
     let held = part.grants.held(&part.rows, user, parent);
     let granted = granted_from(part, top, page, user);
     let own = body.owner == user;
-    let asked = part.grants.moderates(&part.flows, user, body);
+    let asked = moderates(&part.grants, &part.flows, user, body);
     held.change | granted.change | ((held.add | granted.add) & own) | asked
 }
 

@@ -8,7 +8,7 @@ ghost use Rattle.site_model.specs.Rights.{is_superuser};
 ghost use Rattle.desk_pairs.specs.Pairs.{pair_of};
 ghost use Rattle.lost_desks.specs.Staying.{HasDesksOf, is_open_to, is_underway, keeps};
 
-use grants::TreePart;
+use site_part::{TreePart, moderates};
 use site_types::{Body, Moderation, ModerationStatus, PageId, UserId};
 
 /// Whether a user's desk on a page stays open: the page is there, the user may edit it, and neither its
@@ -55,7 +55,7 @@ fn may_work(part: &TreePart, page: PageId, body: &Body, user: UserId) -> bool
 {
     let held = part.grants.held(&part.rows, user, page);
     let own = body.owner == user;
-    let asked = part.grants.moderates(&part.flows, user, body);
+    let asked = moderates(&part.grants, &part.flows, user, body);
     let free = asked | part.grants.is_superuser(user) | !is_underway(body.moderation);
     (held.change | (held.add & own) | asked) & (is_open_to(body.locked_by, user) & free)
 }

@@ -19,12 +19,12 @@ use Rattle.site_model.specs.Step as steps
 use Rattle.site_model.specs.Views.{body_of}
 use Rattle.site_model.proofs.FlowFacts.{submission_has_place}
 use Rattle.site_model.proofs.LosingAnswers.{submit_ends, approve_ends, reject_ends, cancel_ends}
-use Rattle.grants.specs.Plans.{Prepares}
-use Rattle.grants.specs.Standing.{IsReady}
-use Rattle.grants.specs.declared.fault.Fault.{Fault}
-use Rattle.grants.specs.declared.part.TreePart.{TreePart}
-use Rattle.grants.specs.declared.plan.Plan.{Plan}
-use Rattle.grants.proofs.StepLemmas.{own_refuses, pairs_agree}
+use Rattle.site_part.specs.Plans.{Prepares}
+use Rattle.site_part.specs.Standing.{IsReady}
+use Rattle.site_part.specs.declared.fault.Fault.{Fault}
+use Rattle.site_part.specs.declared.part.TreePart.{TreePart}
+use Rattle.site_part.specs.declared.plan.Plan.{Plan}
+use Rattle.site_part.proofs.StepLemmas.{own_refuses, pairs_agree}
 use Rattle.moderating.specs.Asked.{IsAsked}
 use Rattle.moderating.specs.Events.{submitted, is_any_late}
 use Rattle.moderating.specs.Moderated.{moderated_plan}

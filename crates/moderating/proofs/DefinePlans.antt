@@ -9,16 +9,13 @@ use Rattle.site_types.specs.declared.refusal.Refusal.TheVariants.{IdsFull, NoNam
 use Rattle.site_types.specs.declared.reply.Reply.{Reply}
 use Rattle.site_types.specs.declared.reply.Reply.TheVariants as replies
 use Rattle.site_model.specs.World as worlds
-use Rattle.site_model.specs.Laws.{FitsList}
 use Rattle.site_model.specs.Losing.{suspects_of, shuts}
-use Rattle.site_model.specs.Rules.{is_given}
-use Rattle.site_model.specs.Sound.{IsGiven, NamesSome}
+use Rattle.site_model.specs.Sound.{NamesSome}
 use Rattle.site_model.specs.Step.{rules, step_by}
 use Rattle.site_model.specs.Step as steps
 use Rattle.site_model.specs.Tasks.{one_missing, task_rules, define_task, workflow_rules, define_workflow}
-use Rattle.site_model.proofs.ClearLemmas.{not_false}
 use Rattle.site_model.proofs.LosingEnds.{ends_none}
-use Rattle.site_model.proofs.PeopleSound.{given_by, none_passes}
+use Rattle.site_model.proofs.TaskSound.{names_some}
 use Rattle.workflow.proofs.CallerLemmas.{is_task}
 use Rattle.flat_model.specs.Fits.{FlowsFit}
 use Rattle.flat_model.specs.Flat.{people_of, lists_of}
@@ -28,13 +25,13 @@ use Rattle.flat_model.specs.Single.{flow_change}
 use Rattle.flat_model.specs.declared.change.FlowChange.{FlowChange}
 use Rattle.flat_model.specs.declared.change.FlowChange.TheVariants as changes
 use Rattle.flat_model.proofs.ListLemmas.{lists_are, quiet_revisions, quiet_people}
-use Rattle.grants.specs.Plans.{Prepares, HasPlan, flows_needed, left_by, pairs_left}
-use Rattle.grants.specs.Standing.{IsReady, IsSame}
-use Rattle.grants.specs.declared.fault.Fault.{Fault}
-use Rattle.grants.specs.declared.part.TreePart.{TreePart}
-use Rattle.grants.specs.declared.plan.Plan.{Plan}
-use Rattle.grants.proofs.StandingLemmas.{same_ready}
-use Rattle.grants.proofs.StepLemmas.{own_refuses}
+use Rattle.site_part.specs.Plans.{Prepares, HasPlan, flows_needed, left_by, pairs_left}
+use Rattle.site_part.specs.Standing.{IsReady, IsSame}
+use Rattle.site_part.specs.declared.fault.Fault.{Fault}
+use Rattle.site_part.specs.declared.part.TreePart.{TreePart}
+use Rattle.site_part.specs.declared.plan.Plan.{Plan}
+use Rattle.site_part.proofs.StandingLemmas.{same_ready}
+use Rattle.site_part.proofs.StepLemmas.{own_refuses}
 use Rattle.moderating.specs.Asked.{IsAsked}
 use Rattle.moderating.specs.Moderated.{ReadiesFlow}
 use Rattle.moderating.specs.Plans.{ending_plan}
@@ -92,16 +89,6 @@ flow_planned command before after part left desk now caller reply flow ready sam
 flow_planned command before after part left desk now caller reply flow ready same step fits rest few
     told told_is (Err fault) is =
     subst (λ (f : Fault). Prepares part desk now caller command after (Err f)) (sym is) tt
-
--- a list of a command names some things, where none of its ids is missing
-all_named : (next : ℕ) (ids : List ℕ) → FitsList ids → one_missing next ids ≡ false →
-    NamesSome next ids
-all_named next ids fits none = record {
-  not_empty = fits.not_empty;
-  fits = fits.fits;
-  there = none_passes (IsGiven next) (λ id. not (is_given next id)) ids
-      (λ id is. given_by next id (not_false (is_given next id) is)) none;
-}
 
 module _ (kept : TreePart) (part : worlds.TreePart) (desk : Option ContentValue)
     (now caller : ℕ) where
@@ -182,7 +169,7 @@ module _ (kept : TreePart) (part : worlds.TreePart) (desk : Option ContentValue)
           ) refl) task_done refl [] task_ends (none_end part.desk_pairs)) (
             fewer,
             is_task part.next_group groups ready.reached.sound.people.next_group.1
-                (all_named part.next_group groups fits.0 missing) fits.1,
+                (names_some part.next_group groups fits.0 missing) fits.1,
           ) refl (omega arith)
           (replies.Id number) (ap replies.Id (number_is ∙ tasks_are)) result
           (subst (λ (list : List ℕ).
@@ -263,7 +250,7 @@ module _ (kept : TreePart) (part : worlds.TreePart) (desk : Option ContentValue)
         left in
         let named : NamesSome (length part.tasks + 1) tasks =
         subst (λ (next : ℕ). NamesSome next tasks) ready.reached.sound.tasks.tasks_numbered
-        (all_named part.next_task tasks asked.given.fits missing) in
+        (names_some part.next_task tasks asked.given.fits missing) in
         flow_planned (commands.DefineWorkflow tasks) kept after part
         (define_workflow part now tasks).part desk now caller (replies.Id part.next_workflow)
         (changes.Workflow tasks) ready same

@@ -17,7 +17,8 @@ use Rattle.site_model.specs.Views.{body_of, view_of}
 use Rattle.site_model.proofs.AcceptLemmas.{front_parts, page_found}
 use Rattle.site_model.proofs.ClearLemmas.{first_clear, test_clear}
 use Rattle.site_model.proofs.Deeds.{below_root}
-use Rattle.flat_model.proofs.KeptPages.{kept_there, own_found, page_has}
+use Rattle.site_model.proofs.RegularLemmas.{kept_there, found_has}
+use Rattle.flat_model.proofs.KeptPages.{own_found}
 
 -- A page that is there, and is not the root.
 pub record IsBelow (tree : Forest Body) (page : ℕ) : Type 0 where
@@ -125,7 +126,7 @@ latest_there part page reached below regular none =
     let there = kept_there page part.tree below.there in
     let body = there.0 in
     let found = there.1 in
-    let kept = page_has (IsBody part.revisions part.next_user part.next_workflow part.workflows)
+    let kept = found_has (IsBody part.revisions part.next_user part.next_workflow part.workflows)
     page part.tree body reached.sound.bodies.bodies below.there found in
     let own = kept.regular below.below (no_source body (rw found at regular)) in
     let at : latest_of part page

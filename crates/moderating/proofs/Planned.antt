@@ -17,12 +17,12 @@ use Rattle.flat_model.specs.Flat.{people_of, lists_of}
 use Rattle.flat_model.specs.Single.{body_change}
 use Rattle.flat_model.specs.declared.change.Change.{Change}
 use Rattle.flat_model.proofs.ListLemmas.{lists_are, quiet_revisions, quiet_people}
-use Rattle.grants.specs.Plans.{Prepares, HasPlan, rows_needed, people_needed, flows_needed, left_by, pages_of}
-use Rattle.grants.specs.Standing.{IsReady}
-use Rattle.grants.specs.declared.fault.Fault.{Fault}
-use Rattle.grants.specs.declared.part.TreePart.{TreePart}
-use Rattle.grants.specs.declared.plan.Plan.{Plan}
-use Rattle.grants.proofs.LiveLemmas.{body_in}
+use Rattle.site_part.specs.Plans.{Prepares, HasPlan, rows_needed, people_needed, flows_needed, left_by, pages_of}
+use Rattle.site_part.specs.Standing.{IsReady}
+use Rattle.site_part.specs.declared.fault.Fault.{Fault}
+use Rattle.site_part.specs.declared.part.TreePart.{TreePart}
+use Rattle.site_part.specs.declared.plan.Plan.{Plan}
+use Rattle.site_part.proofs.LiveLemmas.{body_in}
 use Rattle.moderating.specs.Plans.{ending_plan, Plans}
 use Rattle.flat_model.proofs.BodyRows.{rebodied_rows}
 use Rattle.moderating.proofs.Steps.{part_left, ending}

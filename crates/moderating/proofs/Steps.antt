@@ -9,8 +9,8 @@ use Rattle.site_model.specs.Desks.{desk_page, settled, is_ended}
 use Rattle.site_model.specs.Front.{front_rules}
 use Rattle.site_model.specs.Step.{rules, step_by}
 use Rattle.site_model.specs.Step as steps
-use Rattle.grants.specs.Plans.{pairs_left, pages_of}
-use Rattle.grants.proofs.StepLemmas.{passed_step}
+use Rattle.site_part.specs.Plans.{pairs_left, pages_of}
+use Rattle.site_part.proofs.StepLemmas.{passed_step}
 
 -- what a command does of itself that opens no desk
 abbrev pub deed_of : TreePart → Reply → Bool → Deed

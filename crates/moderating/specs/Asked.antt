@@ -6,8 +6,8 @@ use Rattle.site_model.specs.World as worlds
 use Rattle.site_model.specs.Desks.{desk_page}
 use Rattle.site_model.specs.Front.{front_rules}
 use Rattle.site_model.specs.Laws.{FitsCommand, FitsDesk}
-use Rattle.grants.specs.declared.part.TreePart.{TreePart}
-use Rattle.grants.specs.Standing.{IsReady}
+use Rattle.site_part.specs.declared.part.TreePart.{TreePart}
+use Rattle.site_part.specs.Standing.{IsReady}
 
 -- What a command is planned of: a part in memory that stands for a world, a command that fits, and
 -- the text of the caller's own desk, if the command looks at it and the caller has one.

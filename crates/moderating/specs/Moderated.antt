@@ -9,11 +9,11 @@ use Rattle.site_model.specs.LosingLaws.{desks_lost_with}
 use Rattle.site_model.specs.Rules.{is_given}
 use Rattle.flat_model.specs.Single.{flow_change, body_change}
 use Rattle.flat_model.specs.declared.change.FlowChange.{FlowChange}
-use Rattle.grants.specs.Plans.{pages_of}
-use Rattle.grants.specs.declared.fault.Fault.{Fault}
-use Rattle.grants.specs.declared.fault.Fault.TheVariants.{Memory}
-use Rattle.grants.specs.declared.part.TreePart.{TreePart}
-use Rattle.grants.specs.declared.plan.Plan.{Plan}
+use Rattle.site_part.specs.Plans.{pages_of}
+use Rattle.site_part.specs.declared.fault.Fault.{Fault}
+use Rattle.site_part.specs.declared.fault.Fault.TheVariants.{Memory}
+use Rattle.site_part.specs.declared.part.TreePart.{TreePart}
+use Rattle.site_part.specs.declared.plan.Plan.{Plan}
 use Rattle.moderating.specs.Plans.{ending_plan}
 
 -- A plan with this reply, which opens and ends no desk, and changes tasks and workflows alone: room

@@ -4,13 +4,13 @@ ghost use Rattle.site_types.specs.Content.{ContentValue};
 ghost use Rattle.site_types.specs.declared.command.Command.TheVariants as commands;
 ghost use Rattle.site_model.specs.Bodies.{same_number};
 ghost use Rattle.site_model.specs.World as worlds;
-ghost use Rattle.grants.specs.Plans.{Prepares};
+ghost use Rattle.site_part.specs.Plans.{Prepares};
 ghost use Rattle.moderating.specs.Asked.{IsAsked};
 ghost use Rattle.moderating.specs.Moderated.{names_none, assigned_body};
 
 use crate::naming::is_missing;
 use crate::telling::{body_plan, kept_of, later, no_pages};
-use grants::{Fault, Plan, TreePart};
+use site_part::{Fault, Plan, TreePart};
 use site_types::{Body, Moment, NameKind, PageId, Refusal, Reply, WorkflowId};
 use std::alloc::Global;
 

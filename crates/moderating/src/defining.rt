@@ -3,14 +3,14 @@ ghost use Rattle.std.specs.Prelude.{◌≡◌, ℕ, Option};
 ghost use Rattle.site_types.specs.Content.{ContentValue};
 ghost use Rattle.site_types.specs.declared.command.Command.TheVariants as commands;
 ghost use Rattle.site_model.specs.World as worlds;
-ghost use Rattle.grants.specs.Plans.{Prepares};
-ghost use Rattle.grants.specs.Standing.{IsSame};
+ghost use Rattle.site_part.specs.Plans.{Prepares};
+ghost use Rattle.site_part.specs.Standing.{IsSame};
 ghost use Rattle.moderating.specs.Asked.{IsAsked};
 ghost use Rattle.moderating.specs.Moderated.{ReadiesFlow};
 
 use crate::naming::one_missing;
 use crate::telling::{ending, later, no_pages};
-use grants::{Change, Fault, FlowChange, Plan, TreePart};
+use site_part::{Change, Fault, FlowChange, Plan, TreePart};
 use site_types::{Ids, LAST_TASK_ID, LAST_WORKFLOW_ID, Moment, NameKind, Refusal, Reply};
 use std::alloc::Global;
 

@@ -8,12 +8,12 @@ ghost use Rattle.site_model.specs.World as worlds;
 ghost use Rattle.site_model.specs.Bodies as bodies;
 ghost use Rattle.site_model.specs.Views as views;
 ghost use Rattle.flat_model.specs.Single.{body_change};
-ghost use Rattle.grants.specs.Standing.{StandsFor};
+ghost use Rattle.site_part.specs.Standing.{StandsFor};
 ghost use Rattle.moderating.specs.Plans.{ending_plan, Plans};
 
-use grants::{Change, Fault, Plan, TreePart};
 use page_store::Rows;
 use revision_shelf::Shelf;
+use site_part::{Change, Fault, Plan, TreePart};
 use site_types::{Body, Ids, Moment, NoMemory, PageId, Reply, Revision, RevisionId};
 use std::alloc::Global;
 

@@ -15,12 +15,12 @@ use Rattle.site_model.specs.Aliases.{source_of, alias_body, with_alias, alias_ru
 use Rattle.site_model.specs.Create.{page_reply}
 use Rattle.site_model.specs.Rules.{slug_taken, steps_full, too_deep, url_too_long, ids_full}
 use Rattle.flat_model.proofs.ListLemmas.{quiet_revisions}
-use Rattle.grants.specs.Plans.{HasPlan}
-use Rattle.grants.specs.Standing.{IsSame}
-use Rattle.grants.specs.declared.fault.Fault.{Fault}
-use Rattle.grants.specs.declared.fault.Fault.TheVariants.{Refused, Memory}
-use Rattle.grants.specs.declared.part.TreePart.{TreePart}
-use Rattle.grants.specs.declared.plan.Plan.{Plan}
+use Rattle.site_part.specs.Plans.{HasPlan}
+use Rattle.site_part.specs.Standing.{IsSame}
+use Rattle.site_part.specs.declared.fault.Fault.{Fault}
+use Rattle.site_part.specs.declared.fault.Fault.TheVariants.{Refused, Memory}
+use Rattle.site_part.specs.declared.part.TreePart.{TreePart}
+use Rattle.site_part.specs.declared.plan.Plan.{Plan}
 use Rattle.new_pages.specs.Aliasing.{newcomer_refusal, IsNewAlias}
 use Rattle.new_pages.specs.declared.aliasing.NewAlias.{NewAlias}
 use Rattle.new_pages.specs.Making.{with_page, IsPlace, place_refusal, newcomer_plan}

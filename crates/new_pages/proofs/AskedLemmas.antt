@@ -7,12 +7,12 @@ use Rattle.site_types.specs.declared.reply.Reply.{Reply}
 use Rattle.site_model.specs.World as worlds
 use Rattle.site_model.specs.Step.{rules}
 use Rattle.flat_model.specs.declared.change.Change.{Change}
-use Rattle.grants.specs.Plans.{Prepares, HasPlan, quiet_plan}
-use Rattle.grants.specs.declared.fault.Fault.{Fault}
-use Rattle.grants.specs.declared.fault.Fault.TheVariants.{Refused, Memory}
-use Rattle.grants.specs.declared.part.TreePart.{TreePart}
-use Rattle.grants.specs.declared.plan.Plan.{Plan}
-use Rattle.grants.proofs.StepLemmas.{own_refuses}
+use Rattle.site_part.specs.Plans.{Prepares, HasPlan, quiet_plan}
+use Rattle.site_part.specs.declared.fault.Fault.{Fault}
+use Rattle.site_part.specs.declared.fault.Fault.TheVariants.{Refused, Memory}
+use Rattle.site_part.specs.declared.part.TreePart.{TreePart}
+use Rattle.site_part.specs.declared.plan.Plan.{Plan}
+use Rattle.site_part.proofs.StepLemmas.{own_refuses}
 use Rattle.new_pages.specs.Plans.{PlansBy, IsAsked}
 
 -- the command's own rules refuse a command that is asked for

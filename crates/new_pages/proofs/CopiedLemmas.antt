@@ -20,8 +20,8 @@ use Rattle.tree_rows.proofs.Lists.{slice_get-drop}
 use Rattle.site_model.specs.World.{TreePart}
 use Rattle.site_model.specs.Copies.{copy_revisions}
 use Rattle.site_model.specs.Create.{fresh_body, plain_revision}
-use Rattle.grants.specs.Standing.{IsReady}
-use Rattle.grants.specs.declared.part.TreePart.{TreePart as KeptPart}
+use Rattle.site_part.specs.Standing.{IsReady}
+use Rattle.site_part.specs.declared.part.TreePart.{TreePart as KeptPart}
 use Rattle.page_copies.specs.Copied.{copied_pages, copy_row, copy_rows, revisions_of}
 use Rattle.page_copies.proofs.CopiedRows.{copy_rows-append, revisions_numbered}
 use Rattle.new_pages.proofs.WeightLemmas.{one_taken}

@@ -7,7 +7,7 @@ use Rattle.revision_shelf.specs.Shelf.{total_weight}
 use Rattle.site_model.specs.World as worlds
 use Rattle.site_model.specs.Copies.{to_copy}
 use Rattle.site_model.specs.Limits.{MAX_CONTENTS, contents_length}
-use Rattle.grants.specs.declared.part.TreePart.{TreePart}
+use Rattle.site_part.specs.declared.part.TreePart.{TreePart}
 use Rattle.page_copies.specs.Contents.{StandFor}
 use Rattle.page_copies.specs.Copied.{IsSource as IsCopied, copied_pages}
 use Rattle.page_copies.proofs.CopiedRows.{pages_count}

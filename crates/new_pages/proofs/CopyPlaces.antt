@@ -28,7 +28,7 @@ use Rattle.site_model.specs.Copies.{size_of, to_copy, copies, into_copy}
 use Rattle.site_model.specs.Create.{fresh_body}
 use Rattle.site_model.specs.Rules.{refused_if, first_of}
 use Rattle.site_model.proofs.RowLemmas.{rows_too_deep}
-use Rattle.grants.specs.declared.fault.Fault.{Fault}
+use Rattle.site_part.specs.declared.fault.Fault.{Fault}
 use Rattle.new_pages.specs.Copying.{IsSource, IsCopyPlace, copied_tree, copy_place_rules, is_deep, is_long, path_within, url_within, rows_below_it}
 use Rattle.new_pages.specs.Faults.{both_of}
 use Rattle.new_pages.specs.Making.{planned_url}

@@ -27,10 +27,10 @@ use Rattle.site_model.specs.Create.{fresh_body, page_reply}
 use Rattle.flat_model.specs.Fits.{Fits, RevisionsFit}
 use Rattle.flat_model.specs.Flat.{people_of, lists_of}
 use Rattle.flat_model.proofs.ListLemmas.{lists_are, quiet_people, none_out}
-use Rattle.grants.specs.Plans.{HasPlan, quiet_plan, left_by}
-use Rattle.grants.specs.Standing.{IsSame}
-use Rattle.grants.specs.declared.part.TreePart.{TreePart}
-use Rattle.grants.specs.declared.plan.Plan.{Plan}
+use Rattle.site_part.specs.Plans.{HasPlan, quiet_plan, left_by}
+use Rattle.site_part.specs.Standing.{IsSame}
+use Rattle.site_part.specs.declared.part.TreePart.{TreePart}
+use Rattle.site_part.specs.declared.plan.Plan.{Plan}
 use Rattle.page_copies.specs.Copied.{copy_rows, copied_pages, revisions_of}
 use Rattle.page_copies.proofs.ComingPairs.{Differ}
 use Rattle.page_copies.proofs.CopiedRows.{rows_count, pages_count, revisions_numbered}

@@ -15,8 +15,8 @@ use Rattle.site_model.specs.Limits.{MAX_CONTENTS, contents_length}
 use Rattle.site_model.specs.Rules.{first_of, refused_if, content_full}
 use Rattle.site_model.proofs.ClearLemmas.{neither}
 use Rattle.site_model.proofs.ContentLemmas.{contents_length-append, within_room, past_room}
-use Rattle.grants.specs.declared.fault.Fault.{Fault}
-use Rattle.grants.specs.declared.fault.Fault.TheVariants.{Refused, Memory}
+use Rattle.site_part.specs.declared.fault.Fault.{Fault}
+use Rattle.site_part.specs.declared.fault.Fault.TheVariants.{Refused, Memory}
 use Rattle.page_copies.proofs.CopiedRows.{rows_count}
 use Rattle.new_pages.specs.Copying.{AreLeft, IsSource, IsCopyPlace, IsNewCopy, copy_place_rules}
 use Rattle.new_pages.specs.Plans.{PlansBy}

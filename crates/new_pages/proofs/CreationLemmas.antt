@@ -10,10 +10,10 @@ use Rattle.site_model.specs.World as worlds
 use Rattle.site_model.specs.Create.{created, fresh_body, plain_revision, page_reply}
 use Rattle.site_model.specs.Rules.{first_of}
 use Rattle.flat_model.proofs.ListLemmas.{none_out}
-use Rattle.grants.specs.Plans.{HasPlan}
-use Rattle.grants.specs.Standing.{IsSame}
-use Rattle.grants.specs.declared.part.TreePart.{TreePart}
-use Rattle.grants.specs.declared.plan.Plan.{Plan}
+use Rattle.site_part.specs.Plans.{HasPlan}
+use Rattle.site_part.specs.Standing.{IsSame}
+use Rattle.site_part.specs.declared.part.TreePart.{TreePart}
+use Rattle.site_part.specs.declared.plan.Plan.{Plan}
 use Rattle.new_pages.specs.declared.creation.NewPage.{NewPage}
 use Rattle.new_pages.specs.Making.{page_rules, IsNewPage, creation_plan}
 use Rattle.new_pages.specs.Plans.{IsAsked}

@@ -31,8 +31,8 @@ use Rattle.new_pages.specs.Plans.{PlansBy, IsSoundTree}
 use Rattle.site_model.proofs.ClearLemmas.{not_given}
 use Rattle.site_model.proofs.MoveSound.{no_zero}
 use Rattle.site_model.proofs.RowLemmas.{rows_too_deep}
-use Rattle.grants.specs.declared.fault.Fault.{Fault}
-use Rattle.grants.specs.declared.fault.Fault.TheVariants as faults
+use Rattle.site_part.specs.declared.fault.Fault.{Fault}
+use Rattle.site_part.specs.declared.fault.Fault.TheVariants as faults
 use Rattle.new_pages.specs.Faults.{both_of}
 use Rattle.new_pages.specs.Making.{IsPlace, with_page, place_refusal, planned_url}
 use Rattle.new_pages.proofs.HeightLemmas.{deep_is}

@@ -12,8 +12,8 @@ use Rattle.site_model.specs.Limits.{MAX_CONTENTS, contents_length}
 use Rattle.site_model.specs.Create.{created, fresh_body, plain_revision}
 use Rattle.site_model.specs.Rules.{first_of, slug_taken, steps_full, too_deep, url_too_long, ids_full, content_full}
 use Rattle.site_model.proofs.ContentLemmas.{contents_length-append, within_room, past_room}
-use Rattle.grants.specs.declared.fault.Fault.{Fault}
-use Rattle.grants.specs.declared.fault.Fault.TheVariants.{Refused, Memory}
+use Rattle.site_part.specs.declared.fault.Fault.{Fault}
+use Rattle.site_part.specs.declared.fault.Fault.TheVariants.{Refused, Memory}
 use Rattle.new_pages.specs.Making.{IsPlace, place_refusal, ids_refusal, page_rules, IsNewPage}
 use Rattle.new_pages.specs.Plans.{PlansBy}
 use Rattle.new_pages.proofs.RuleLemmas.{front_refused, front_passed}

@@ -14,9 +14,9 @@ use Rattle.site_model.specs.Sound.{IsSoundPart}
 use Rattle.site_model.specs.Step.{rules, step_by}
 use Rattle.site_model.specs.Step as steps
 use Rattle.site_model.proofs.LosingEnds.{ends_none}
-use Rattle.grants.specs.Plans.{pages_of, pairs_left}
-use Rattle.grants.proofs.LeftLemmas.{pairs_agree}
-use Rattle.grants.proofs.StepLemmas.{passed_step}
+use Rattle.site_part.specs.Plans.{pages_of, pairs_left}
+use Rattle.site_part.proofs.LeftLemmas.{pairs_agree}
+use Rattle.site_part.proofs.StepLemmas.{passed_step}
 
 -- the effect of a command that opens no desk and ends these
 abbrev pub ending : Reply → List DeskPair → Effect

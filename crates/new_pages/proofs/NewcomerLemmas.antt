@@ -21,10 +21,10 @@ use Rattle.flat_model.specs.Flat.{people_of, lists_of}
 use Rattle.flat_model.specs.Made.{revisions_left}
 use Rattle.flat_model.specs.declared.change.Change.{Change}
 use Rattle.flat_model.proofs.ListLemmas.{lists_are, quiet_people}
-use Rattle.grants.specs.Plans.{HasPlan, quiet_plan, left_by}
-use Rattle.grants.specs.Standing.{IsSame}
-use Rattle.grants.specs.declared.part.TreePart.{TreePart}
-use Rattle.grants.specs.declared.plan.Plan.{Plan}
+use Rattle.site_part.specs.Plans.{HasPlan, quiet_plan, left_by}
+use Rattle.site_part.specs.Standing.{IsSame}
+use Rattle.site_part.specs.declared.part.TreePart.{TreePart}
+use Rattle.site_part.specs.declared.plan.Plan.{Plan}
 use Rattle.new_pages.specs.declared.newcomer.Newcomer.{Newcomer}
 use Rattle.new_pages.specs.declared.place.NewPlace.{NewPlace}
 use Rattle.new_pages.specs.Making.{with_page, IsPlace, row_at, newcomer_change, newcomer_plan}

@@ -15,10 +15,10 @@ use Rattle.site_model.proofs.ReachedSound.{step_by_keeps_reached}
 use Rattle.flat_model.specs.Fits.{Fits}
 use Rattle.flat_model.specs.Flat.{lists_of}
 use Rattle.flat_model.specs.declared.change.Change.{Change}
-use Rattle.grants.specs.Plans.{HasPlan, quiet_plan, left_by, rows_needed, people_needed, flows_needed}
-use Rattle.grants.specs.Standing.{IsSame}
-use Rattle.grants.specs.declared.part.TreePart.{TreePart}
-use Rattle.grants.proofs.StandingLemmas.{same_ready}
+use Rattle.site_part.specs.Plans.{HasPlan, quiet_plan, left_by, rows_needed, people_needed, flows_needed}
+use Rattle.site_part.specs.Standing.{IsSame}
+use Rattle.site_part.specs.declared.part.TreePart.{TreePart}
+use Rattle.site_part.proofs.StandingLemmas.{same_ready}
 use Rattle.new_pages.specs.Plans.{IsAsked}
 use Rattle.new_pages.proofs.EndingSteps.{ending, left_open, no_desk_fits, quiet_step}
 

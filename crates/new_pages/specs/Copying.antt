@@ -24,8 +24,8 @@ use Rattle.site_model.specs.Rules.{slug_taken, steps_full, too_deep, url_too_lon
 use Rattle.flat_model.specs.Single.{tree_change}
 use Rattle.flat_model.specs.declared.change.Change.{Change}
 use Rattle.flat_model.specs.declared.change.TreeChange.TheVariants.{Insert}
-use Rattle.grants.specs.Plans.{quiet_plan}
-use Rattle.grants.specs.declared.plan.Plan.{Plan}
+use Rattle.site_part.specs.Plans.{quiet_plan}
+use Rattle.site_part.specs.declared.plan.Plan.{Plan}
 use Rattle.page_copies.specs.Copied.{copy_rows}
 use Rattle.new_pages.specs.Making.{IsPlace, row_at}
 use Rattle.new_pages.specs.declared.place.NewPlace.{NewPlace}

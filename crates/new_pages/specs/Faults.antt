@@ -5,8 +5,8 @@ use Rattle.path_moves.specs.declared.fault.PathFault.{PathFault}
 use Rattle.path_moves.specs.declared.fault.PathFault.TheVariants as paths
 use Rattle.slug_urls.specs.declared.fault.UrlFault.{UrlFault}
 use Rattle.slug_urls.specs.declared.fault.UrlFault.TheVariants as urls
-use Rattle.grants.specs.declared.fault.Fault.{Fault}
-use Rattle.grants.specs.declared.fault.Fault.TheVariants.{Refused, Memory}
+use Rattle.site_part.specs.declared.fault.Fault.{Fault}
+use Rattle.site_part.specs.declared.fault.Fault.TheVariants.{Refused, Memory}
 
 -- the fault of a command whose page gets no path
 abbrev pub of_path : PathFault → Fault

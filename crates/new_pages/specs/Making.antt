@@ -22,8 +22,8 @@ use Rattle.site_model.specs.Rules.{first_of, slug_taken, steps_full, too_deep, u
 use Rattle.flat_model.specs.Single.{tree_change}
 use Rattle.flat_model.specs.declared.change.Change.{Change}
 use Rattle.flat_model.specs.declared.change.TreeChange.TheVariants.{Insert}
-use Rattle.grants.specs.Plans.{quiet_plan}
-use Rattle.grants.specs.declared.plan.Plan.{Plan}
+use Rattle.site_part.specs.Plans.{quiet_plan}
+use Rattle.site_part.specs.declared.plan.Plan.{Plan}
 use Rattle.new_pages.specs.declared.place.NewPlace.{NewPlace}
 use Rattle.new_pages.specs.declared.creation.NewPage.{NewPage}
 use Rattle.new_pages.specs.declared.newcomer.Newcomer.{Newcomer}

@@ -18,7 +18,7 @@ use Rattle.slug_urls.specs.declared.fault.UrlFault.{UrlFault}
 use Rattle.slug_urls.specs.declared.fault.UrlFault.TheVariants.{Taken, TooLong, Memory}
 use Rattle.site_model.specs.LosingLaws.{is_lost_below}
 use Rattle.site_model.specs.Moves.{into_itself, effect_refusal}
-use Rattle.grants.specs.Plans.{pages_of}
+use Rattle.site_part.specs.Plans.{pages_of}
 use Rattle.new_pages.specs.Plans.{IsSoundTree, NamesMove}
 use Rattle.site_model.specs.World as worlds
 

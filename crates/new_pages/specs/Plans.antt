@@ -10,10 +10,10 @@ use Rattle.site_model.specs.World as worlds
 use Rattle.site_model.specs.Front.{front_rules}
 use Rattle.site_model.specs.Laws.{FitsCommand}
 use Rattle.site_model.specs.Sound.{IsTree}
-use Rattle.grants.specs.declared.fault.Fault.{Fault}
-use Rattle.grants.specs.declared.fault.Fault.TheVariants.{Refused, Memory}
-use Rattle.grants.specs.declared.part.TreePart.{TreePart}
-use Rattle.grants.specs.Standing.{IsReady}
+use Rattle.site_part.specs.declared.fault.Fault.{Fault}
+use Rattle.site_part.specs.declared.fault.Fault.TheVariants.{Refused, Memory}
+use Rattle.site_part.specs.declared.part.TreePart.{TreePart}
+use Rattle.site_part.specs.Standing.{IsReady}
 
 -- What is told by what rules refuse: something right only where none refuses, and a refusal exactly
 -- as the rules say. Out of memory tells nothing.

@@ -6,8 +6,8 @@ ghost use Rattle.site_types.specs.declared.body.Body.{Body as PageBody};
 ghost use Rattle.site_types.specs.declared.command.Command.TheVariants as commands;
 ghost use Rattle.site_model.specs.World as worlds;
 ghost use Rattle.site_model.specs.Aliases.{alias_body};
-ghost use Rattle.grants.specs.Plans.{Prepares};
-ghost use Rattle.grants.specs.Standing.{IsReady, IsSame};
+ghost use Rattle.site_part.specs.Plans.{Prepares};
+ghost use Rattle.site_part.specs.Standing.{IsReady, IsSame};
 ghost use Rattle.new_pages.specs.Plans.{PlansBy, IsAsked};
 ghost use Rattle.new_pages.specs.Aliasing.{newcomer_refusal, PageGiven, IsNewAlias};
 
@@ -15,8 +15,8 @@ use crate::newcomer::{Newcomer, newcomer_plan};
 use crate::place::{NewPlace, plan_place};
 use crate::room::make_room;
 use crate::telling::later;
-use grants::{Fault, Plan, TreePart};
 use page_copies::plan_alias;
+use site_part::{Fault, Plan, TreePart};
 use site_types::{Body, Items, Moment, PageId, Refusal, Slug, UserId};
 use std::alloc::Global;
 

@@ -3,15 +3,15 @@ ghost use Rattle.std.specs.Prelude.{◌≡◌, ◌≤◌, ◌<◌, ◌+◌, ◌+
 ghost use Rattle.std.specs.Option.{option_map};
 ghost use Rattle.site_ids.specs.Ids.{IsPageId, IsRevisionId};
 ghost use Rattle.site_model.specs.World as worlds;
-ghost use Rattle.grants.specs.Standing.{IsReady};
+ghost use Rattle.site_part.specs.Standing.{IsReady};
 ghost use Rattle.page_copies.specs.Copied.{copy_row, revisions_of};
 ghost use Rattle.new_pages.specs.Copying.{AreLeft, AreMovable, moved_row, rows_of_copy};
 
 use crate::newcomer::{new_body, new_revision, new_row};
 use crate::place::NewPlace;
 use crate::source::{Source, row_at, url_at};
-use grants::TreePart;
 use page_copies::CopyPlan;
+use site_part::TreePart;
 use site_types::{
     Items, Moment, NoMemory, PageId, PageRow, Revision, RevisionId, Slug, Url, UserId,
 };

@@ -9,8 +9,8 @@ ghost use Rattle.site_types.specs.declared.command.Command.TheVariants as comman
 ghost use Rattle.site_model.specs.World as worlds;
 ghost use Rattle.site_model.specs.Copies.{copy_rules, into_copy};
 ghost use Rattle.site_model.specs.Rules.{first_of};
-ghost use Rattle.grants.specs.Plans.{Prepares};
-ghost use Rattle.grants.specs.Standing.{IsSame};
+ghost use Rattle.site_part.specs.Plans.{Prepares};
+ghost use Rattle.site_part.specs.Standing.{IsSame};
 ghost use Rattle.new_pages.specs.Plans.{PlansBy, IsAsked, IsSoundTree};
 ghost use Rattle.new_pages.specs.Copying.{IsSource, IsCopyPlace, IsNewCopy, copy_place_rules, copying_plan};
 
@@ -21,11 +21,11 @@ use crate::room::make_room;
 use crate::source::{Source, short_path, short_url, source_of};
 use crate::telling::{later, text_of};
 use crate::weighing::weighs_more;
-use grants::{Change, Fault, Plan, TreeChange, TreePart};
 use page_copies::plan_copy;
 use page_store::Rows;
 use path_moves::plan_append;
 use revision_shelf::MAX_CONTENT_SUM;
+use site_part::{Change, Fault, Plan, TreeChange, TreePart};
 use site_types::{
     Items, LAST_PAGE_ID, LAST_REVISION_ID, Moment, NoMemory, PageId, PageRow, Refusal, Reply,
     Revision, Slug, Url, UserId,

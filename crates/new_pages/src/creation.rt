@@ -4,8 +4,8 @@ ghost use Rattle.site_types.specs.Content.{ContentValue};
 ghost use Rattle.site_types.specs.declared.command.Command.TheVariants as commands;
 ghost use Rattle.site_model.specs.World as worlds;
 ghost use Rattle.site_model.specs.Rules.{first_of};
-ghost use Rattle.grants.specs.Plans.{Prepares};
-ghost use Rattle.grants.specs.Standing.{IsReady, IsSame};
+ghost use Rattle.site_part.specs.Plans.{Prepares};
+ghost use Rattle.site_part.specs.Standing.{IsReady, IsSame};
 ghost use Rattle.new_pages.specs.Plans.{PlansBy, IsAsked};
 ghost use Rattle.new_pages.specs.Making.{IdsGiven, page_rules, IsNewPage, creation_plan};
 
@@ -13,8 +13,8 @@ use crate::newcomer::{Newcomer, new_body, new_revision, newcomer_plan, one_item}
 use crate::place::{NewPlace, plan_place};
 use crate::room::make_room;
 use crate::telling::later;
-use grants::{Fault, Plan, TreePart};
 use revision_shelf::MAX_CONTENT_SUM;
+use site_part::{Fault, Plan, TreePart};
 use site_types::{Content, Moment, NoMemory, PageId, Refusal, RevisionId, Slug, UserId};
 use std::alloc::Global;
 

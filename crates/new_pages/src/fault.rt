@@ -2,8 +2,8 @@
 ghost use Rattle.std.specs.Prelude.{◌≡◌};
 ghost use Rattle.new_pages.specs.Faults.{of_path, of_url};
 
-use grants::Fault;
 use path_moves::PathFault;
+use site_part::Fault;
 use site_types::Refusal;
 use slug_urls::UrlFault;
 

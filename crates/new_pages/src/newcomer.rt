@@ -5,7 +5,7 @@ ghost use Rattle.new_pages.specs.Making.{row_at, newcomer_plan};
 
 use crate::place::NewPlace;
 use crate::telling::text_of;
-use grants::{Change, Plan, TreeChange};
+use site_part::{Change, Plan, TreeChange};
 use site_types::{
     Body, Content, Items, Moment, NoMemory, PageId, PageRow, Reply, Revision, RevisionId, Slug,
     UserId,

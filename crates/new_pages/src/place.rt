@@ -13,9 +13,9 @@ ghost use Rattle.new_pages.specs.Plans.{PlansBy};
 ghost use Rattle.new_pages.specs.Making.{IsPlace, place_refusal, planned_url};
 
 use crate::fault::{path_fault, url_fault};
-use grants::Fault;
 use page_store::Rows;
 use path_moves::{PathFault, plan_append};
+use site_part::Fault;
 use site_types::{NoMemory, PageId, Slug, Url};
 use slug_urls::{MAX_URL_BYTES, UrlFault};
 use std::alloc::Global;

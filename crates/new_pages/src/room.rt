@@ -1,8 +1,8 @@
 //! Room for what a plan changes.
 ghost use Rattle.std.specs.Prelude.{◌≤◌, OnOk};
-ghost use Rattle.grants.specs.Standing.{IsSame};
+ghost use Rattle.site_part.specs.Standing.{IsSame};
 
-use grants::TreePart;
+use site_part::TreePart;
 use site_types::NoMemory;
 
 /// Makes room for so many rows and revisions. All but the room stays as it was.

@@ -23,7 +23,7 @@ use Rattle.tree_rows.specs.Subtree.{subtree_rows}
 use Rattle.site_model.specs.World.{TreePart}
 use Rattle.site_model.specs.Copies.{copied_content, to_copy}
 use Rattle.site_model.specs.Aliases.{no_content}
-use Rattle.grants.proofs.LiveLemmas.{body_in}
+use Rattle.site_part.proofs.LiveLemmas.{body_in}
 use Rattle.page_copies.specs.Contents.{copied_by}
 use Rattle.page_copies.specs.Copied.{IsSource, AreCopied, GetsContent, copied_pages, copied_pair}
 use Rattle.page_copies.proofs.ShownLemmas.{copied_there}

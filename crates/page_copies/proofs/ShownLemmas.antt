@@ -9,7 +9,8 @@ use Rattle.site_model.specs.Aliases.{content_with, shown_by}
 use Rattle.site_model.specs.Bodies.{revision_with}
 use Rattle.site_model.specs.Sound.{IsBody, AreBodies, HasOwn, IsRegular, is_own}
 use Rattle.site_model.specs.Views.{body_of}
-use Rattle.flat_model.proofs.KeptPages.{kept_there, own_found, page_has}
+use Rattle.site_model.proofs.RegularLemmas.{kept_there, found_has}
+use Rattle.flat_model.proofs.KeptPages.{own_found}
 use Rattle.page_copies.specs.Contents.{copied_by}
 
 -- nothing is left of nothing alone
@@ -53,7 +54,7 @@ module _ (part : TreePart)
     pub has_own : (page : ℕ) (body : Body) → (page ≡ 1 → ⊥) → has_page page part.tree ≡ true →
         body_of part.tree page ≡ Some body → body.source ≡ None → HasOwn part.revisions page body
     has_own page body below there found regular =
-        (page_has (IsBody part.revisions part.next_user part.next_workflow part.workflows) page
+        (found_has (IsBody part.revisions part.next_user part.next_workflow part.workflows) page
         part.tree body bodies.bodies there found).regular below regular
 
     -- what an alias shows is there
@@ -63,11 +64,11 @@ module _ (part : TreePart)
     shown_there page body there found source is none =
         let regular : IsRegular part.tree source =
         subst (λ (o : Option ℕ). IfSome o (IsRegular part.tree)) is
-        (page_has (λ id own. IfSome own.source (IsRegular part.tree)) page part.tree body
+        (found_has (λ id own. IfSome own.source (IsRegular part.tree)) page part.tree body
         bodies.sources there found) in
         let kept = kept_there source part.tree regular.1 in
         let own = has_own source kept.0 regular.0 regular.1 kept.1
-        (page_has (λ id one. id ≡ source → one.source ≡ None) source part.tree kept.0 regular.2
+        (found_has (λ id one. id ≡ source → one.source ≡ None) source part.tree kept.0 regular.2
         regular.1 kept.1 refl) in
         own_content part source kept.0.shown own.shown
         (sym (shows_source part body kept.0 source is kept.1) ∙ none)

@@ -12,9 +12,9 @@ use Rattle.site_model.specs.Laws.{FitsCommand}
 use Rattle.site_model.specs.Reached.{IsReached}
 use Rattle.site_model.specs.Step.{step, step_at}
 use Rattle.site_model.proofs.ReachedSound.{step_keeps_reached}
-use Rattle.grants.proofs.StandingLemmas as parts_stand
-use Rattle.grants.specs.declared.fault.Fault.{Fault}
-use Rattle.grants.specs.declared.fault.Fault.TheVariants as faults
+use Rattle.site_part.proofs.StandingLemmas as parts_stand
+use Rattle.site_part.specs.declared.fault.Fault.{Fault}
+use Rattle.site_part.specs.declared.fault.Fault.TheVariants as faults
 use Rattle.site_core.specs.Standing as cores
 use Rattle.site_core.specs.Texts.{AreDesks}
 use Rattle.site_core.specs.declared.state.Core.{Core}

@@ -6,8 +6,8 @@ use Rattle.site_types.specs.declared.reply.Reply.{Reply}
 use Rattle.site_history.specs.History.{Tally, Item, tick_all}
 use Rattle.site_model.specs.World.{World}
 use Rattle.site_model.specs.Reached.{IsReached}
-use Rattle.grants.specs.declared.fault.Fault.{Fault}
-use Rattle.grants.specs.declared.fault.Fault.TheVariants.{Refused, Memory}
+use Rattle.site_part.specs.declared.fault.Fault.{Fault}
+use Rattle.site_part.specs.declared.fault.Fault.TheVariants.{Refused, Memory}
 use Rattle.site_core.specs.Standing as cores
 use Rattle.wire_model.specs.declared.answer.Answer.{Answer}
 use Rattle.wire_model.specs.declared.answer.Answer.TheVariants as answers

@@ -14,9 +14,9 @@ ghost use Rattle.wire_model.specs.Exchange.{run};
 ghost use Rattle.pagetree_session.specs.Beginning.{new_tally};
 ghost use Rattle.pagetree_session.specs.Standing.{StandsFor, IsReady, Answers, fault_answered};
 
-use grants::Fault;
 use public_view::Card;
 use site_core::Core;
+use site_part::Fault;
 use site_types::{Command, Content, Digest, Ids, Moment, NoMemory, PageId, UserId};
 use std::alloc::Global;
 use wire_model::Answer;

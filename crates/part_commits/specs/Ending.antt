@@ -1,6 +1,6 @@
 -- What a commit answers.
 use Rattle.std.specs.Prelude.{◌≡◌}
-use Rattle.grants.specs.declared.plan.Plan.{Plan}
+use Rattle.site_part.specs.declared.plan.Plan.{Plan}
 use Rattle.part_commits.specs.declared.done.Done.{Done}
 
 -- what is answered is what the plan tells

@@ -15,7 +15,7 @@ use Rattle.flat_model.specs.Made.{made, rows_made}
 use Rattle.flat_model.specs.declared.change.Change.{Change}
 use Rattle.flat_model.specs.declared.change.TreeChange.{TreeChange}
 use Rattle.flat_model.specs.declared.change.TreeChange.TheVariants as trees
-use Rattle.grants.specs.declared.part.TreePart.{TreePart}
+use Rattle.site_part.specs.declared.part.TreePart.{TreePart}
 
 -- whether the page is among those that get other fields
 abbrev pub is_listed : ℕ → List (ℕ × Body) → Bool

@@ -2,8 +2,8 @@
 ghost use Rattle.std.specs.Prelude.{◌≡◌};
 ghost use Rattle.std.specs.List.{AllByRecursion};
 ghost use Rattle.site_ids.specs.Ids.{IsPageId};
-ghost use Rattle.grants.specs.Standing.{InStep, IsLinked, seen};
-ghost use Rattle.grants.specs.Plans.{PlanFits, HasRoom, left_by};
+ghost use Rattle.site_part.specs.Standing.{InStep, IsLinked, seen};
+ghost use Rattle.site_part.specs.Plans.{PlanFits, HasRoom, left_by};
 ghost use Rattle.part_commits.specs.Ending.{TellsPlan};
 ghost use Rattle.part_commits.specs.InStep.{CanStayInStep};
 ghost use Rattle.part_commits.specs.Links.{CanPutLinks};
@@ -11,8 +11,8 @@ ghost use Rattle.part_commits.specs.Links.{CanPutLinks};
 use crate::done::Done;
 use crate::making::make;
 use crate::pairs::{cut_pairs, put_pair};
-use grants::{Plan, TreePart};
 use link_plans::put_links;
+use site_part::{Plan, TreePart};
 
 /// Does what was planned. It cannot fail, and takes no memory.
 ///

@@ -5,9 +5,9 @@ ghost use Rattle.workflow.specs.Flows.{IsTask, IsWorkflow};
 ghost use Rattle.flat_model.specs.Fits.{FlowsFit};
 ghost use Rattle.flat_model.specs.Lists.{PartLists};
 ghost use Rattle.flat_model.specs.Made.{tasks_made, workflows_made};
-ghost use Rattle.grants.specs.Plans.{flows_needed};
+ghost use Rattle.site_part.specs.Plans.{flows_needed};
 
-use grants::FlowChange;
+use site_part::FlowChange;
 use site_types::Ids;
 use workflow::Flows;
 

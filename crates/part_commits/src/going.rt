@@ -3,7 +3,7 @@ ghost use Rattle.std.specs.Prelude.{◌≡◌, ◌≤◌, Some};
 ghost use Rattle.std.specs.List.{AllByRecursion};
 ghost use Rattle.site_ids.specs.Ids.{IsPageId};
 ghost use Rattle.flat_model.specs.Made.{people_left, purge_left};
-ghost use Rattle.grants.specs.Standing.{seen_people};
+ghost use Rattle.site_part.specs.Standing.{seen_people};
 ghost use Rattle.part_commits.specs.Purging.{number_of};
 
 use flat_model::Purge;

@@ -2,8 +2,8 @@
 ghost use Rattle.std.specs.Prelude.{◌≡◌, ◌≤◌, length};
 ghost use Rattle.flat_model.specs.Fits.{Fits};
 ghost use Rattle.flat_model.specs.Made.{made};
-ghost use Rattle.grants.specs.Plans.{rows_needed, people_needed, flows_needed};
-ghost use Rattle.grants.specs.Standing.{seen, InStep};
+ghost use Rattle.site_part.specs.Plans.{rows_needed, people_needed, flows_needed};
+ghost use Rattle.site_part.specs.Standing.{seen, InStep};
 ghost use Rattle.part_commits.specs.InStep.{CanStayInStep};
 
 use crate::bodies::put_bodies;
@@ -12,7 +12,7 @@ use crate::going::{drop_grants, put_purge};
 use crate::people_change::put_people;
 use crate::revisions::put_revisions;
 use crate::tree::put_tree;
-use grants::{Change, TreePart};
+use site_part::{Change, TreePart};
 
 /// Makes a change. It cannot fail, and takes no memory.
 ///

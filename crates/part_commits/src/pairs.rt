@@ -2,7 +2,7 @@
 ghost use Rattle.std.specs.Prelude.{◌≡◌, ◌≤◌};
 ghost use Rattle.std.specs.List.{AllByRecursion};
 ghost use Rattle.site_ids.specs.Ids.{IsPageId};
-ghost use Rattle.grants.specs.Plans.{desks_needed, pairs_opened, pairs_left, DeskFits};
+ghost use Rattle.site_part.specs.Plans.{desks_needed, pairs_opened, pairs_left, DeskFits};
 
 use crate::going::page_of;
 use desk_pairs::DeskPairs;

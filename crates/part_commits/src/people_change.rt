@@ -2,10 +2,11 @@
 ghost use Rattle.std.specs.Prelude.{◌≡◌, ◌≤◌};
 ghost use Rattle.flat_model.specs.Fits.{PeopleFit};
 ghost use Rattle.flat_model.specs.Made.{people_made};
-ghost use Rattle.grants.specs.Plans.{people_needed};
-ghost use Rattle.grants.specs.Standing.{seen_people};
+ghost use Rattle.site_part.specs.Plans.{people_needed};
+ghost use Rattle.site_part.specs.Standing.{seen_people};
 
-use grants::{Grants, PeopleChange};
+use grants::Grants;
+use site_part::PeopleChange;
 
 /// Changes users, groups, memberships and grants. It cannot fail.
 ///

@@ -2,7 +2,7 @@
 ghost use Rattle.std.specs.Prelude.{◌≡◌, OnOk};
 ghost use Rattle.part_commits.specs.InStep.{HasIndexRoom, HasOtherRoom, rows_coming};
 
-use grants::{Change, TreeChange, TreePart};
+use site_part::{Change, TreeChange, TreePart};
 use site_types::NoMemory;
 
 /// Makes room for what a change puts into the tables and among the aliases, or tells that memory

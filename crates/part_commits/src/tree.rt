@@ -2,7 +2,7 @@
 ghost use Rattle.std.specs.Prelude.{◌≡◌, ◌+◌, ◌≤◌, List, length};
 ghost use Rattle.flat_model.specs.Fits.{PagesFit, TreeFits};
 ghost use Rattle.flat_model.specs.Made.{rows_made, with_page, with_pages};
-ghost use Rattle.grants.specs.Plans.{rows_needed};
+ghost use Rattle.site_part.specs.Plans.{rows_needed};
 ghost use Rattle.link_plans.specs.PageLinks.{AreAliases};
 ghost use Rattle.part_commits.specs.InStep.{rows_coming};
 ghost use Rattle.page_store.specs.PageRows.{IsNewRow};
@@ -13,9 +13,9 @@ use crate::leaving::drop_range;
 use crate::moving::put_move;
 use crate::renaming::put_name;
 use crate::sources::add_row;
-use grants::TreeChange;
 use link_index::Aliases;
 use page_store::Rows;
+use site_part::TreeChange;
 use site_types::{Items, PageRow, Url};
 use time_table::Times;
 

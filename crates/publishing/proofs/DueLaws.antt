@@ -9,10 +9,10 @@ use Rattle.site_types.specs.declared.revision.Revision.{Revision}
 use Rattle.site_model.specs.World as worlds
 use Rattle.site_model.specs.Bodies.{rebodied}
 use Rattle.site_model.specs.Publishing.{has_expired}
-use Rattle.site_model.specs.Ticks.{DuePage, Due, due_by, with_due, all_due, each_changed, expiries, go_lives, with_expired}
+use Rattle.site_model.specs.Ticks.{DuePage, Due, due_by, with_due, each_changed, expiries, go_lives, with_expired}
 use Rattle.page_store.specs.Pages.{Page}
 use Rattle.publishing.specs.Times.{named}
-use Rattle.publishing.specs.Ticks.{going_live_in, due_expiries, due_go_lives, due_of, DueInWorld}
+use Rattle.publishing.specs.Ticks.{going_live_in, due_expiries, due_go_lives, DueInWorld}
 
 -- A page and the revision that it has scheduled.
 record Scheduled : Type 0 where

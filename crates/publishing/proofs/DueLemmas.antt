@@ -1,17 +1,16 @@
 -- What is due of rows, as pairs of a moment and a page: a table, with the moments of the rows.
-use Rattle.std.proofs.Common.{◌≡◌, ℕ, Bool, true, false, cond, nat_eq, nat_lt, nat_le, List, [], ◌∷◌, map, Option, Some, None, refl, ap, sym, ◌∙◌, arith}
+use Rattle.std.proofs.Common.{◌≡◌, ℕ, Bool, true, false, cond, nat_eq, nat_lt, List, [], ◌∷◌, map, Option, Some, None, refl, ap, ◌∙◌, arith}
 use Rattle.std.proofs.lemmas.Bool.Decides.{nat_tests}
 use Rattle.std.specs.List.{AllByRecursion}
 use Rattle.std.specs.Option.{option_map, option_and_then}
 use Rattle.page_tree.specs.Rows.{row_with, comes_before}
-use Rattle.site_model.specs.Ticks.{DuePage, due_key, with_due, all_due}
+use Rattle.site_model.specs.Ticks.{DuePage, due_key, all_due}
 use Rattle.site_model.specs.Users.{put_in}
 use Rattle.page_store.specs.Pages.{Page, EachPair, HasOtherId}
 use Rattle.time_table.specs.Table as tables
 use Rattle.time_table.specs.Table.{is_earlier, moment_in, IsTable}
 use Rattle.time_table.proofs.TableLemmas.{found_put, table_put}
-use Rattle.time_table.proofs.EntryLemmas.{eq_turned}
-use Rattle.publishing.proofs.BodyLemmas.{eq_means, eq_self}
+use Rattle.publishing.proofs.BodyLemmas.{eq_means}
 
 -- what is due, as a pair
 abbrev pub pair_of : DuePage → ℕ × ℕ

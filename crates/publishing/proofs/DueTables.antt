@@ -1,8 +1,8 @@
 -- Tables with the same moments are the same; what is due of a table.
-use Rattle.std.proofs.Common.{◌≡◌, ℕ, Bool, true, false, cond, nat_eq, nat_le, List, [], ◌∷◌, filter, Option, Some, None, refl, ap, sym, ◌∙◌}
+use Rattle.std.proofs.Common.{◌≡◌, ℕ, Bool, true, false, cond, nat_eq, nat_le, List, [], ◌∷◌, Option, Some, None, refl, ap, sym, ◌∙◌}
 use Rattle.std.specs.List.{AllByRecursion}
 use Rattle.std.specs.Option.{option_and_then}
-use Rattle.time_table.specs.Table.{is_earlier, is_of, moment_in, due_in, ComesFirst, IsTable}
+use Rattle.time_table.specs.Table.{moment_in, due_in, ComesFirst, IsTable}
 use Rattle.time_table.proofs.EntryLemmas.{earlier_trans, earlier_self, eq_turned, eq_self, eq_means, all_found}
 use Rattle.time_table.proofs.TableLemmas.{eq_joined}
 

@@ -17,7 +17,6 @@ use Rattle.publishing.specs.Times.{body_in, named, expiry_of, go_live_of, AreTim
 use Rattle.publishing.specs.Ticks.{expiring_in, going_live_in, due_expiries, due_go_lives, due_of, scheduled_in, is_dropped, pages_in, published_in, dropped_in, IsSplit, IsTickPlan}
 use Rattle.publishing.specs.Ticked.{changed_bodies}
 use Rattle.publishing.specs.declared.due.TickPlan.{TickPlan}
-use Rattle.time_table.proofs.EntryLemmas.{eq_turned}
 use Rattle.publishing.proofs.BodyLemmas.{eq_means, eq_self}
 use Rattle.publishing.proofs.DueLemmas.{pair_of, pairs_of, moment_of, IsOwn, have_moments}
 use Rattle.publishing.proofs.DueTables.{same_table, come_by, due_moments}

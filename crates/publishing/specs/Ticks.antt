@@ -1,8 +1,7 @@
 -- What is due at a moment, of rows and revisions, and what a plan tells of it.
-use Rattle.std.specs.Prelude.{◌≡◌, ℕ, Bool, true, false, not, List, map, filter, Option, Some, None, if◌then◌else◌}
+use Rattle.std.specs.Prelude.{◌≡◌, ℕ, Bool, false, not, List, map, filter, Option, None, if◌then◌else◌}
 use Rattle.std.specs.Option.{option_and_then, option_map_or}
 use Rattle.page_tree.specs.Rows.{rows_of}
-use Rattle.site_types.specs.declared.body.Body.{Body}
 use Rattle.site_types.specs.declared.revision.Revision.{Revision}
 use Rattle.site_model.specs.World as worlds
 use Rattle.site_model.specs.Publishing.{has_expired}

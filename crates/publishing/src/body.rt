@@ -1,9 +1,8 @@
 //! What is kept of a page, and the moments that it has in the two time tables.
-ghost use Rattle.std.specs.Prelude.{◌≡◌, ◌+◌, ◌≤◌, Some, IsSome, List};
-ghost use Rattle.std.specs.Option.{option_and_then, option_copied, option_map};
+ghost use Rattle.std.specs.Prelude.{◌≡◌, ◌+◌, ◌≤◌, Some, IsSome};
+ghost use Rattle.std.specs.Option.{option_copied};
 ghost use Rattle.page_tree.specs.Rows.{row_with};
 ghost use Rattle.page_store.specs.Changes.{with_body};
-ghost use Rattle.revision_shelf.specs.Shelf.{revision_with};
 ghost use Rattle.time_table.specs.Table.{with_option};
 ghost use Rattle.publishing.specs.Times.{body_in, named, expiry_of, go_live_of, AreTimed};
 

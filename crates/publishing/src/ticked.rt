@@ -1,6 +1,6 @@
 //! What is kept of the pages that a tick changes, after it.
 ghost use Rattle.std.specs.Prelude.{◌≡◌, ◌++◌, Some, IfOk};
-ghost use Rattle.publishing.specs.Times.{body_in, AreTimed};
+ghost use Rattle.publishing.specs.Times.{AreTimed};
 ghost use Rattle.publishing.specs.Ticks.{due_expiries, due_go_lives, pages_in};
 ghost use Rattle.site_model.specs.Ticks.{pages_due};
 ghost use Rattle.publishing.specs.Ticked as specs;

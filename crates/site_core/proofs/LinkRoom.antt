@@ -16,10 +16,10 @@ use Rattle.flat_model.specs.Lists.{PartLists}
 use Rattle.flat_model.specs.Single.{tree_change}
 use Rattle.flat_model.specs.declared.change.TreeChange.TheVariants.{Nothing}
 use Rattle.flat_model.proofs.ListLemmas.{quiet_revisions}
-use Rattle.grants.specs.Plans.{HasPlan}
-use Rattle.grants.specs.Standing.{StandsFor, IsReady}
-use Rattle.grants.specs.declared.part.TreePart.{TreePart}
-use Rattle.grants.specs.declared.plan.Plan.{Plan}
+use Rattle.site_part.specs.Plans.{HasPlan}
+use Rattle.site_part.specs.Standing.{StandsFor, IsReady}
+use Rattle.site_part.specs.declared.part.TreePart.{TreePart}
+use Rattle.site_part.specs.declared.plan.Plan.{Plan}
 use Rattle.link_plans.specs.PageLinks.{page_links, AreLinked}
 use Rattle.link_plans.specs.Told.{TellsPages, AreLinksAfter, total_links}
 use Rattle.part_commits.specs.InStep.{HasIndexRoom, CanStayInStep}

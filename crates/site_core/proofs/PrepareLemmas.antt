@@ -29,13 +29,13 @@ use Rattle.site_model.proofs.LosingSteps.{ended_are}
 use Rattle.site_model.proofs.OwnText.{own_text_fits}
 use Rattle.flat_model.specs.Flat.{lists_of}
 use Rattle.flat_model.proofs.ListLemmas.{lists_are, none_out, quiet_revisions, quiet_people}
-use Rattle.grants.specs.declared.fault.Fault.{Fault}
-use Rattle.grants.specs.declared.fault.Fault.TheVariants.{Refused, Memory}
-use Rattle.grants.specs.declared.plan.Plan.{Plan}
-use Rattle.grants.specs.Plans as parts
-use Rattle.grants.specs.Plans.{DeskFits, desk_of, pages_of, left_by}
-use Rattle.grants.specs.Standing as parts_stand
-use Rattle.grants.proofs.StandingLemmas.{same_ready}
+use Rattle.site_part.specs.declared.fault.Fault.{Fault}
+use Rattle.site_part.specs.declared.fault.Fault.TheVariants.{Refused, Memory}
+use Rattle.site_part.specs.declared.plan.Plan.{Plan}
+use Rattle.site_part.specs.Plans as parts
+use Rattle.site_part.specs.Plans.{DeskFits, desk_of, pages_of, left_by}
+use Rattle.site_part.specs.Standing as parts_stand
+use Rattle.site_part.proofs.StandingLemmas.{same_ready}
 use Rattle.part_commits.specs.InStep.{CanStayInStep}
 use Rattle.part_commits.specs.Links.{CanPutLinks}
 use Rattle.part_commits.proofs.InStepLemmas.{nothing_stays}

@@ -11,13 +11,13 @@ use Rattle.site_model.proofs.ReachedSound.{step_by_keeps_reached}
 use Rattle.page_store.specs.Pages.{ArePages}
 use Rattle.flat_model.specs.Flat.{lists_of}
 use Rattle.flat_model.specs.Lists.{PartLists}
-use Rattle.grants.specs.Plans.{HasPlan, HasRoom}
+use Rattle.site_part.specs.Plans.{HasPlan, HasRoom}
 use Rattle.time_table.specs.declared.times.Times.{Times}
 use Rattle.link_index.specs.Pairs.{PairList}
-use Rattle.grants.specs.Standing.{SameIndexes, IsSame, IsReady}
-use Rattle.grants.specs.declared.part.TreePart.{TreePart}
-use Rattle.grants.specs.declared.plan.Plan.{Plan}
-use Rattle.grants.proofs.StandingLemmas.{same_ready, same_both}
+use Rattle.site_part.specs.Standing.{SameIndexes, IsSame, IsReady}
+use Rattle.site_part.specs.declared.part.TreePart.{TreePart}
+use Rattle.site_part.specs.declared.plan.Plan.{Plan}
+use Rattle.site_part.proofs.StandingLemmas.{same_ready, same_both}
 use Rattle.part_commits.specs.InStep.{HasOtherRoom, HasIndexRoom, CanStayInStep}
 use Rattle.part_commits.proofs.InStepLemmas.{stays_in_step}
 use Rattle.site_core.specs.Linking.{HasLinkRoom}

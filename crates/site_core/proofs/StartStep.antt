@@ -10,8 +10,8 @@ use Rattle.publishing.specs.Laws.{IsUntimed}
 use Rattle.publishing.specs.Times.{body_in}
 use Rattle.publishing.proofs.LawLemmas.{tables_start}
 use Rattle.link_plans.specs.PageLinks.{source_in, finds_in, kept_links}
-use Rattle.grants.specs.Standing.{InStep, IsLinked}
-use Rattle.grants.specs.declared.part.TreePart.{TreePart}
+use Rattle.site_part.specs.Standing.{InStep, IsLinked}
+use Rattle.site_part.specs.declared.part.TreePart.{TreePart}
 use Rattle.part_commits.proofs.AliasLemmas.{no_aliases}
 
 -- the root's row

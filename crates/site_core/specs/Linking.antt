@@ -1,6 +1,6 @@
 -- Room for the links that pages get.
 use Rattle.std.specs.Prelude.{◌≡◌}
-use Rattle.grants.specs.declared.part.TreePart.{TreePart}
+use Rattle.site_part.specs.declared.part.TreePart.{TreePart}
 
 -- All is the same but the room for links.
 pub record HasLinkRoom (before after : TreePart) : Type 0 where

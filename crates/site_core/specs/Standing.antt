@@ -15,12 +15,12 @@ use Rattle.site_model.specs.Step.{step_at}
 use Rattle.flat_model.specs.Flat.{lists_of}
 use Rattle.flat_model.specs.Single.{tree_change}
 use Rattle.flat_model.specs.declared.change.TreeChange.TheVariants.{Nothing}
-use Rattle.grants.specs.declared.fault.Fault.{Fault}
-use Rattle.grants.specs.declared.fault.Fault.TheVariants.{Refused, Memory}
-use Rattle.grants.specs.declared.part.TreePart.{TreePart}
-use Rattle.grants.specs.declared.plan.Plan.{Plan}
-use Rattle.grants.specs.Plans.{PlanFits, HasRoom, left_by, quiet_plan}
-use Rattle.grants.specs.Standing as parts_stand
+use Rattle.site_part.specs.declared.fault.Fault.{Fault}
+use Rattle.site_part.specs.declared.fault.Fault.TheVariants.{Refused, Memory}
+use Rattle.site_part.specs.declared.part.TreePart.{TreePart}
+use Rattle.site_part.specs.declared.plan.Plan.{Plan}
+use Rattle.site_part.specs.Plans.{PlanFits, HasRoom, left_by, quiet_plan}
+use Rattle.site_part.specs.Standing as parts_stand
 use Rattle.part_commits.specs.InStep.{CanStayInStep}
 use Rattle.part_commits.specs.Links.{CanPutLinks}
 use Rattle.site_core.specs.Texts.{DeskLists, kept_on, row_of, desk_on, room_for, AreDesks, OpensWell, desk_left}

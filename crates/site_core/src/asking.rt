@@ -6,8 +6,8 @@ ghost use Rattle.site_model.specs.World as worlds;
 ghost use Rattle.site_model.specs.Desks.{desk_page};
 ghost use Rattle.site_model.specs.Laws.{FitsCommand, FitsDesk};
 ghost use Rattle.site_model.specs.Step.{saving};
-ghost use Rattle.grants.specs.Standing as parts_stand;
-ghost use Rattle.grants.specs.Plans as parts;
+ghost use Rattle.site_part.specs.Standing as parts_stand;
+ghost use Rattle.site_part.specs.Plans as parts;
 ghost use Rattle.flat_model.specs.Flat.{lists_of};
 ghost use Rattle.part_commits.specs.InStep.{CanStayInStep};
 ghost use Rattle.part_commits.specs.Links.{CanPutLinks};
@@ -15,7 +15,7 @@ ghost use Rattle.site_core.specs.Standing.{HasDeskRoom, PlansSaving, kept_text};
 
 use crate::desk_parts::DeskParts;
 use crate::part::prepare;
-use grants::{Change, Fault, Plan, TreeChange, TreePart};
+use site_part::{Change, Fault, Plan, TreeChange, TreePart};
 use site_types::{Command, Content, Moment, NoMemory, PageId, Refusal, Reply, UserId};
 use std::alloc::Global;
 

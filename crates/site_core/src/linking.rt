@@ -5,8 +5,8 @@ ghost use Rattle.link_plans.specs.PageLinks.{AreAliases};
 ghost use Rattle.link_plans.specs.Told.{TellsPages, AreLinksAfter, total_links};
 ghost use Rattle.site_core.specs.Linking.{HasLinkRoom};
 
-use grants::{Change, TreePart};
 use link_plans::{plan_links, reserve_links};
+use site_part::{Change, TreePart};
 use site_types::{Ids, Items, NoMemory, PageId};
 use std::alloc::Global;
 

@@ -43,7 +43,6 @@ pub mod PartLemmas
 pub mod AloneLemmas
 pub mod ReachedSound
 pub mod RightLemmas
-pub mod EditNeedLemmas
 pub mod DenialLemmas
 pub mod PageDenials
 pub mod FlowDenials

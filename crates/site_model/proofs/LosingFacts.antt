@@ -1,42 +1,36 @@
 -- What deletions, locks, publishing, memberships and grants do to open desks.
 use Rattle.std.proofs.Common.{◌≡◌, ℕ, Bool, true, false, not, ◌&&◌, nat_eq, List, [], ◌∷◌, filter, Option, Some, None, Ok, is_some, refl, sym, ap, subst, ◌∙◌, arith}
-use Rattle.std.specs.Prelude.{IfSome}
 use Rattle.std.specs.List.{AllByRecursion, list_any}
 use Rattle.page_tree.specs.Tree.{HasDistinctIds, without}
 use Rattle.site_types.specs.Content.{ContentValue}
 use Rattle.site_types.specs.declared.body.Body.{Body}
-use Rattle.site_types.specs.declared.command.Command.TheVariants.{Delete, Publish, Lock, Member, Grant}
+use Rattle.site_types.specs.declared.command.Command.TheVariants.{Delete, Lock, Member, Grant}
 use Rattle.site_types.specs.declared.permission.Permission.{Permission}
 use Rattle.site_types.specs.declared.refusal.Refusal.TheVariants.{Locked}
-use Rattle.site_types.specs.declared.revision.Revision.{Revision}
 use Rattle.tree_model.proofs.CountLemmas.{once, has_counts, cut_counts}
 use Rattle.tree_model.proofs.PageLemmas.{all_weaker}
-use Rattle.site_model.specs.World.{DeskPair, TreePart, Deed, Effect, time_at}
+use Rattle.site_model.specs.World.{DeskPair, TreePart, Deed, Effect}
 use Rattle.site_model.specs.Rights.{Rights, rights_of}
 use Rattle.site_model.specs.Rules.{refused_if}
-use Rattle.site_model.specs.Views.{View, may_edit}
+use Rattle.site_model.specs.Views.{may_edit}
 use Rattle.site_model.specs.Users.{members_after, grants_after}
-use Rattle.site_model.specs.Bodies.{latest_of}
 use Rattle.site_model.specs.Delete.{aliases_left, each_detached, without_page}
-use Rattle.site_model.specs.Moderations.{after_publishing}
-use Rattle.site_model.specs.Publishing.{published_body, publish}
+use Rattle.site_model.specs.Publishing.{publish}
 use Rattle.site_model.specs.Front.{StopsOthers, locked, in_moderation}
 use Rattle.site_model.specs.Desks.{desk_page, stays, settled}
 use Rattle.site_model.specs.Step.{step_by}
 use Rattle.site_model.specs.Step as steps
 use Rattle.site_model.specs.Sound.{IsSoundPart}
 use Rattle.site_model.specs.Losing.{suspects_of, is_within, shuts, is_lost}
-use Rattle.site_model.specs.Reached.{HasNoModeration}
 use Rattle.site_model.specs.LosingLaws.{desks_within, desks_of_others}
 use Rattle.site_model.proofs.AcceptLemmas.{accepted}
 use Rattle.site_model.proofs.DeskSound.{desk_has_page}
 use Rattle.site_model.proofs.EachDetached.{each_distinct, each_way}
 use Rattle.site_model.proofs.ViewLemmas.{seen}
 use Rattle.site_model.proofs.LosingTrees.{way_to, passes, way_changed, cut_within, way-rebodied}
-use Rattle.site_model.proofs.LosingRights.{viewed_at, stays_at, stays_by_way, both_hold}
+use Rattle.site_model.proofs.LosingRights.{stays_at, stays_by_way, both_hold}
 use Rattle.site_model.proofs.LosingLemmas.{filter_alike}
-use Rattle.site_model.proofs.LosingBodies.{same_seen, body_changed, same_stays}
-use Rattle.site_model.proofs.LosingStages.{way_all, published_keeps}
+use Rattle.site_model.proofs.LosingBodies.{body_changed}
 use Rattle.site_model.proofs.LosingPages.{is_passed}
 use Rattle.site_model.proofs.LosingSteps.{ended_are}
 
@@ -177,65 +171,6 @@ lock_ends_others before after told desk now caller page sound is =
         (same && not stay) ≡ (same && not own)
     where_same true stay own told = rw (told refl) refl
     where_same false stay own told = refl
-
--- a page without a moderation has none after it was published
-publish_seen : (part : TreePart) (moment : ℕ) (revision : Revision) (own : Bool)
-    (way : Option (List ℕ × Body)) → IfSome way (λ one. one.1.moderation ≡ None) →
-    viewed_at part (way_changed own
-    (λ body. record (published_body moment revision body) {
-      moderation = after_publishing body.moderation;
-    }) way)
-    ≡ viewed_at part way
-publish_seen part moment revision own None none = refl
-publish_seen part moment revision false (Some way) none = refl
-publish_seen part moment revision true (Some way) none =
-    let kept = published_keeps moment revision way.1 in
-    let shown = record (published_body moment revision way.1) {
-      moderation = after_publishing way.1.moderation;
-    } in
-    ap (λ (view : View). Some view) (same_seen part way.0 way.1 shown (record {
-      owner = kept.owner;
-      locked_by = kept.locked_by;
-      moderation = rw none refl;
-    }))
-
--- where no page has a moderation, a desk stays when one is published
-pub publish_stays : (part : TreePart) (now page : ℕ) (found : Option Revision) (pair : DeskPair) →
-    HasNoModeration part.tree → stays (publish part now page found).part pair ≡ stays part pair
-publish_stays part now page None pair none = refl
-publish_stays part now page (Some revision) pair none =
-    let moment = time_at part now in
-    let change = λ (body : Body). record (published_body moment revision body) {
-      moderation = after_publishing body.moderation;
-    } in
-    same_stays part (body_changed page change part) pair refl
-    (ap (λ (way : Option (List ℕ × Body)). viewed_at part way)
-    (way-rebodied pair.page page change part.tree)
-    ∙ publish_seen part moment revision (nat_eq pair.page page) (way_to pair.page part.tree)
-    (way_all (λ body. body.moderation ≡ None) pair.page part.tree none))
-
--- Where no page has a moderation, to publish one ends no desk.
-pub publish_ends_none : (before after : TreePart) (told : Effect) (desk : Option ContentValue)
-    (now caller page : ℕ) → IsSoundPart before → HasNoModeration before.tree →
-    step_by before desk now caller (Publish page) ≡ Ok (after, told) → told.ended ≡ []
-unfolding steps.effect desk_page suspects_of shuts
-publish_ends_none before after told desk now caller page sound none is =
-    let one = accepted before after told desk now caller (Publish page) is in
-    let all = ended_are before after told desk now caller (Publish page) sound is in
-    all.ended
-    ∙ filter_none (is_lost before after caller (Publish page)) before.desk_pairs
-    (all_weaker (λ (pair : DeskPair). stays before pair ≡ true)
-    (λ (pair : DeskPair). is_lost before after caller (Publish page) pair ≡ false)
-    before.desk_pairs
-    (λ pair stay. kept (nat_eq pair.page page) (stays after pair)
-    (settled_as after told caller None (steps.effect before desk now caller (Publish page)) pair
-    one.done ∙ publish_stays before now page (latest_of before page) pair none ∙ stay))
-    sound.desks.desks_stay)
-  where
-    kept : (own stay : Bool) → stay ≡ true → (own && not stay) ≡ false
-    kept true true h = refl
-    kept false true h = refl
-    kept own false h = absurd (cc)
 
 -- After a membership began or ended, a desk stays by the memberships alone.
 pub stays_by_members : (before after : TreePart) (told : Effect) (desk : Option ContentValue)

@@ -52,6 +52,17 @@ sources_stay before after tree keep all =
     AllPages-weaker _ _ tree
     (λ id slug body is. source_stays before after body.source keep is) all
 
+-- a page that is there is kept
+pub kept_there : (page : ℕ) (tree : Forest Body) → has_page page tree ≡ true →
+    (body : Body) × (body_of tree page ≡ Some body)
+kept_there page tree there =
+    let node = node_found page tree (has_counts page tree there) in
+    (node.body, ap (λ (f : Forest Body). first_body f) node.is)
+
+-- the same, found twice
+pub same_body : (one other : Body) → ◌≡◌ {A = Option Body} (Some one) (Some other) → one ≡ other
+same_body one other is = cc
+
 -- what holds of each page holds of the body that is found of a page
 pub found_has : (P : ℕ → Body → Type 0) (page : ℕ) (tree : Forest Body) (body : Body) →
     AllPages (λ id slug one. P id one) tree → has_page page tree ≡ true →
@@ -62,9 +73,6 @@ found_has P page tree body all there found =
     (AllPages-node_of (λ id slug own. P id own) page tree all)).0 in
     subst (λ (own : Body). P page own)
     (same_body node.body body (sym (ap (λ (f : Forest Body). first_body f) node.is) ∙ found)) one
-  where
-    same_body : (a b : Body) → ◌≡◌ {A = Option Body} (Some a) (Some b) → a ≡ b
-    same_body a b h = cc
 
 -- what is found of a regular page has no source
 pub regular_source : (tree : Forest Body) (page : ℕ) → IsRegular tree page →

@@ -18,12 +18,11 @@ use Rattle.site_model.specs.Moderating.{last_workflow, nearest_workflow, moderat
 use Rattle.site_model.specs.Sound.{IsGiven, is_own}
 use Rattle.site_model.proofs.BodySound.{IsKept}
 use Rattle.site_model.proofs.ClearLemmas.{test_clear}
-use Rattle.site_model.proofs.EditNeedLemmas.{kept_there}
 use Rattle.site_model.proofs.Groups.{AreGroups}
 use Rattle.site_model.proofs.ModerationSound.{FitsPage, task_count, moderation_fits}
 use Rattle.site_model.proofs.NumberLemmas.{list_some}
 use Rattle.site_model.proofs.PublishSound.{kept_body}
-use Rattle.site_model.proofs.RegularLemmas.{HasNoSource}
+use Rattle.site_model.proofs.RegularLemmas.{HasNoSource, kept_there}
 
 -- what holds of each page holds of those on a walk
 walk_all : (P : Body → Type 0) (page : ℕ) (f : Forest Body) →

@@ -23,7 +23,7 @@ use Rattle.site_model.proofs.NumberLemmas.{list_front}
 use Rattle.site_model.proofs.PeopleSound.{all_appended, length_appended, next_one, given_by, given_more, names_more, none_passes}
 
 -- a list of a command names some things, where none of its ids is missing
-names_some : (next : ℕ) (ids : List ℕ) → FitsList ids → one_missing next ids ≡ false →
+pub names_some : (next : ℕ) (ids : List ℕ) → FitsList ids → one_missing next ids ≡ false →
     NamesSome next ids
 names_some next ids fits none = record {
   not_empty = fits.not_empty;

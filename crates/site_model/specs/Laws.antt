@@ -19,7 +19,7 @@ use Rattle.site_model.specs.Limits.{MAX_NAMED}
 use Rattle.site_model.specs.Rights.{is_superuser, has, is_granted}
 use Rattle.site_model.specs.Rules.{first_of}
 use Rattle.site_model.specs.Front.{front_rules}
-use Rattle.site_model.specs.Needs.{may, edit_need}
+use Rattle.site_model.specs.Needs.{may}
 use Rattle.site_model.specs.Create.{plain_revision}
 use Rattle.site_model.specs.Delete.{with_deleted, deleted_at_once}
 use Rattle.site_model.specs.Desks.{desk_page, own_text, settled, stays}
@@ -28,7 +28,7 @@ use Rattle.site_model.specs.Parts.{part_of, touches}
 use Rattle.site_model.specs.Start.{new_world}
 use Rattle.site_model.specs.Moderating.{nearest_workflow, moderation_of, after_event, submission}
 use Rattle.site_model.specs.Sound.{IsGiven, FitsModeration, IsSoundPart, IsSound, NumbersRise}
-use Rattle.site_model.specs.Reached.{HasNoModeration, IsReachedPart, IsReached, draft_need}
+use Rattle.site_model.specs.Reached.{IsReachedPart, IsReached}
 
 -- A list of ids in a command: 1 to 16 of them.
 pub record FitsList (ids : List ℕ) : Type 0 where
@@ -170,13 +170,6 @@ HeldByWalks =
     (part : TreePart) (user page : ℕ) (permission : Permission) →
     has part user permission page
     ≡ (is_superuser part.users user || is_granted part user permission page)
-
--- Where no page has a moderation, nobody edits a page as its moderator.
-abbrev pub EditNeedUnmoderated : Type 0
-EditNeedUnmoderated =
-    (part : TreePart) (user page : ℕ) →
-    HasNoModeration part.tree → has_page page part.tree ≡ true →
-    edit_need part user page ≡ draft_need part user page
 
 -- In a sound world the nearest workflow of a page is there.
 abbrev pub NearestIsGiven : Type 0

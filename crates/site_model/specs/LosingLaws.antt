@@ -23,7 +23,6 @@ use Rattle.site_model.specs.Moderations.{WasApproved, WasRejected, WasCancelled,
 use Rattle.site_model.specs.Moderating.{moderation_of, after_event, submission}
 use Rattle.site_model.specs.Step.{step_by}
 use Rattle.site_model.specs.Sound.{IsSoundPart}
-use Rattle.site_model.specs.Reached.{HasNoModeration}
 use Rattle.site_model.specs.Losing.{NoDesk, DesksBelow, suspects_of, is_within, is_suspect, shuts, LosesFew}
 
 -- After every command that is accepted in a sound world, the desks that end are the caller's own
@@ -77,14 +76,6 @@ LockEndsOthers =
     (now caller page : ℕ) → IsSoundPart before →
     step_by before desk now caller (commands.Lock page) ≡ Ok (after, told) →
     told.ended ≡ desks_of_others before caller page
-
--- Where no page has a moderation, to publish one ends no desk.
-abbrev pub PublishEndsNone : Type 0
-PublishEndsNone =
-    (before after : TreePart) (told : Effect) (desk : Option ContentValue)
-    (now caller page : ℕ) → IsSoundPart before → HasNoModeration before.tree →
-    step_by before desk now caller (commands.Publish page) ≡ Ok (after, told) →
-    told.ended ≡ []
 
 -- what is seen of a page where its moderation is this one
 abbrev pub seen_with : TreePart → Option Moderation → View → View

@@ -1,6 +1,6 @@
 //! Laws of the world. Each is a function that does nothing: its contract is the law.
-ghost use Rattle.site_model.specs.Laws.{NewWorldIsReached, StepByKeepsReached, OwnTextFits, StepKeepsReached, StepKeepsSound, StepIsSettled, DesksStay, UntouchedStays, TouchedAlone, SuperusersMayAll, HeldByWalks, EditNeedUnmoderated, NearestIsGiven, ModerationNames, SubmissionHasPlace, DeletionAtOnce, CreationKeepsTheRest};
-ghost use Rattle.site_model.specs.LosingLaws.{EndedAre, EndsOwn, EndsNone, DeletionEndsAll, LockEndsOthers, PublishEndsNone, SubmitEnds, ApproveEnds, RejectEnds, CancelEnds, PublishEnds, StaysByMembers, MemberEnds, StaysByGrants, GrantEnds, MovedAbove, MovedStay, MoveEnds};
+ghost use Rattle.site_model.specs.Laws.{NewWorldIsReached, StepByKeepsReached, OwnTextFits, StepKeepsReached, StepKeepsSound, StepIsSettled, DesksStay, UntouchedStays, TouchedAlone, SuperusersMayAll, HeldByWalks, NearestIsGiven, ModerationNames, SubmissionHasPlace, DeletionAtOnce, CreationKeepsTheRest};
+ghost use Rattle.site_model.specs.LosingLaws.{EndedAre, EndsOwn, EndsNone, DeletionEndsAll, LockEndsOthers, SubmitEnds, ApproveEnds, RejectEnds, CancelEnds, PublishEnds, StaysByMembers, MemberEnds, StaysByGrants, GrantEnds, MovedAbove, MovedStay, MoveEnds};
 
 /// The world of a new site is one that is reached.
 pub fn new_world_is_reached()
@@ -57,11 +57,6 @@ pub fn held_by_walks()
     ensures { HeldByWalks }
 {}
 
-/// Where no page has a moderation, nobody edits a page as its moderator.
-pub fn edit_need_unmoderated()
-    ensures { EditNeedUnmoderated }
-{}
-
 /// In a sound world the nearest workflow of a page is there.
 pub fn nearest_is_given()
     ensures { NearestIsGiven }
@@ -105,11 +100,6 @@ pub fn deletion_ends_all()
 /// A lock ends the desk of another on its page.
 pub fn lock_ends_others()
     ensures { LockEndsOthers }
-{}
-
-/// To publish a page ends no desk where no page has a moderation.
-pub fn publish_ends_none()
-    ensures { PublishEndsNone }
 {}
 
 /// A submission ends the desk on its page, if it does not stay by what is left of the moderation.

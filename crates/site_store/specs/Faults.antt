@@ -1,6 +1,6 @@
 -- Faults of a store, by those of the crates below it.
-use Rattle.grants.specs.declared.fault.Fault.{Fault}
-use Rattle.grants.specs.declared.fault.Fault.TheVariants as plans
+use Rattle.site_part.specs.declared.fault.Fault.{Fault}
+use Rattle.site_part.specs.declared.fault.Fault.TheVariants as plans
 use Rattle.journal.specs.declared.fault.ScanFault.{ScanFault}
 use Rattle.journal.specs.declared.fault.ScanFault.TheVariants as scans
 use Rattle.site_store.specs.declared.fault.CallFault.{CallFault}

@@ -1,5 +1,5 @@
 //! Why a command of a store was not accepted.
-use grants::Fault;
+use site_part::Fault;
 use site_types::Refusal;
 use std::error::Error;
 use std::fmt;

@@ -12,8 +12,8 @@ ghost use Rattle.site_store.specs.Recovery.{Leads};
 ghost use Rattle.site_store.specs.Opening.{start, Replays, ReplaysAll};
 
 use entry_log::{Disk, EntryScan, ScanFault};
-use grants::Fault;
 use site_core::Core;
+use site_part::Fault;
 use std::alloc::Global;
 
 /// Reads the entries that a scan has not read, and does each of them in memory.

@@ -22,8 +22,8 @@ ghost use Rattle.site_store.specs.Running.{Answers, history_after, IsKeptAfter};
 
 use crate::fault::CallFault;
 use entry_log::{Disk, Draft, DraftFault, EntryLog};
-use grants::Plan;
 use site_core::Core;
+use site_part::Plan;
 use site_types::{Command, Entry, Moment, Refusal, Reply, UserId};
 use std::alloc::Global;
 

@@ -32,8 +32,8 @@ use Rattle.flat_model.specs.Single.{tree_change}
 use Rattle.flat_model.specs.declared.change.Change.{Change}
 use Rattle.flat_model.specs.declared.change.TreeChange.TheVariants as trees
 use Rattle.flat_model.proofs.ListLemmas.{people_are, lists_are}
-use Rattle.grants.specs.Plans.{pages_of, pairs_left, quiet_plan, left_by}
-use Rattle.grants.specs.declared.plan.Plan.{Plan}
+use Rattle.site_part.specs.Plans.{pages_of, pairs_left, quiet_plan, left_by}
+use Rattle.site_part.specs.declared.plan.Plan.{Plan}
 use Rattle.new_pages.proofs.EndingSteps.{left_open}
 use Rattle.tree_edits.specs.Leaving.{AreDetached, detached_pairs}
 use Rattle.tree_edits.specs.declared.leaving.LeftAliases.{LeftAliases}

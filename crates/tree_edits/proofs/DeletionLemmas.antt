@@ -21,10 +21,10 @@ use Rattle.site_model.specs.LosingLaws.{desks_within}
 use Rattle.site_model.specs.Sound.{IsGiven}
 use Rattle.site_model.proofs.DeletedForm.{deletion_at_once}
 use Rattle.site_model.proofs.LosingFacts.{deletion_ends_all}
-use Rattle.grants.specs.Plans.{HasPlan, pages_of}
-use Rattle.grants.specs.Standing.{IsSame}
-use Rattle.grants.specs.declared.part.TreePart.{TreePart as KeptPart}
-use Rattle.grants.proofs.StandingLemmas.{same_ready}
+use Rattle.site_part.specs.Plans.{HasPlan, pages_of}
+use Rattle.site_part.specs.Standing.{IsSame}
+use Rattle.site_part.specs.declared.part.TreePart.{TreePart as KeptPart}
+use Rattle.site_part.proofs.StandingLemmas.{same_ready}
 use Rattle.tree_edits.specs.Leaving.{AreDetached}
 use Rattle.tree_edits.specs.declared.leaving.LeftAliases.{LeftAliases}
 use Rattle.new_pages.specs.Plans.{IsAsked, IsSoundTree}

@@ -22,18 +22,18 @@ use Rattle.site_model.specs.Sound.{AreBodies}
 use Rattle.site_model.specs.Views.{body_of, is_live, is_live_page}
 use Rattle.site_model.proofs.SourceLemmas.{found_is_there}
 use Rattle.site_model.proofs.ContentLemmas.{within_room, past_room, within, past}
+use Rattle.site_model.proofs.RegularLemmas.{kept_there, same_body}
 use Rattle.flat_model.proofs.BodyRows.{rebodied_rows}
 use Rattle.flat_model.proofs.ListLemmas.{lists_are, quiet_people}
 use Rattle.flat_model.specs.Flat.{people_of, lists_of}
 use Rattle.flat_model.specs.Single.{body_change}
 use Rattle.flat_model.specs.declared.change.Change.{Change}
-use Rattle.grants.specs.Plans.{HasPlan, quiet_plan, left_by}
-use Rattle.grants.specs.Standing.{IsSame}
-use Rattle.grants.proofs.LiveLemmas.{body_missing}
-use Rattle.flat_model.proofs.KeptPages.{kept_there, same_body}
+use Rattle.site_part.specs.Plans.{HasPlan, quiet_plan, left_by}
+use Rattle.site_part.specs.Standing.{IsSame}
+use Rattle.site_part.proofs.LiveLemmas.{body_missing}
 use Rattle.page_copies.proofs.ShownLemmas.{shown_there}
-use Rattle.grants.specs.declared.part.TreePart.{TreePart}
-use Rattle.grants.specs.declared.plan.Plan.{Plan}
+use Rattle.site_part.specs.declared.part.TreePart.{TreePart}
+use Rattle.site_part.specs.declared.plan.Plan.{Plan}
 use Rattle.tree_edits.specs.Detaching.{regular_body, detaching_plan}
 use Rattle.tree_edits.specs.Leaving.{body_at, IsAliasHere, IsDetachedAt}
 use Rattle.tree_edits.specs.declared.detaching.Detached.{Detached}

@@ -32,11 +32,11 @@ use Rattle.flat_model.specs.Single.{tree_change}
 use Rattle.flat_model.specs.declared.change.Change.{Change}
 use Rattle.flat_model.specs.declared.change.TreeChange.TheVariants as trees
 use Rattle.flat_model.proofs.ListLemmas.{lists_are, quiet_revisions, quiet_people}
-use Rattle.grants.specs.Plans.{HasPlan, pages_of, pairs_left, quiet_plan, left_by}
-use Rattle.grants.specs.declared.plan.Plan.{Plan}
-use Rattle.grants.specs.Standing.{IsSame}
-use Rattle.grants.specs.declared.part.TreePart.{TreePart}
-use Rattle.grants.proofs.StandingLemmas.{same_ready}
+use Rattle.site_part.specs.Plans.{HasPlan, pages_of, pairs_left, quiet_plan, left_by}
+use Rattle.site_part.specs.declared.plan.Plan.{Plan}
+use Rattle.site_part.specs.Standing.{IsSame}
+use Rattle.site_part.specs.declared.part.TreePart.{TreePart}
+use Rattle.site_part.proofs.StandingLemmas.{same_ready}
 use Rattle.new_pages.specs.Moving.{there_rules, IsNamed, IsMovePlan, told_reply}
 use Rattle.new_pages.specs.Plans.{IsAsked, IsSoundTree}
 use Rattle.new_pages.proofs.CommandLemmas.{move_names, move_own, move_done, move_desk}

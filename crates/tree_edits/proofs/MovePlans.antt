@@ -37,7 +37,7 @@ use Rattle.site_model.specs.Rules.{first_of}
 use Rattle.new_pages.specs.Plans.{PlansBy, IsSoundTree}
 use Rattle.site_model.proofs.MoveSound.{no_zero}
 use Rattle.site_model.proofs.RowLemmas.{rows_too_deep}
-use Rattle.grants.specs.declared.fault.Fault.TheVariants.{Refused}
+use Rattle.site_part.specs.declared.fault.Fault.TheVariants.{Refused}
 use Rattle.new_pages.specs.Faults.{both_of}
 use Rattle.new_pages.specs.Moving.{there_rules, taken_by, IsNamed, IsAway, IsMovePlan}
 use Rattle.new_pages.proofs.LookUpLemmas.{row_there}

@@ -26,10 +26,10 @@ use Rattle.flat_model.specs.Single.{tree_change}
 use Rattle.flat_model.specs.declared.change.Change.{Change}
 use Rattle.flat_model.specs.declared.change.TreeChange.TheVariants as trees
 use Rattle.flat_model.proofs.ListLemmas.{lists_are, quiet_revisions, quiet_people}
-use Rattle.grants.specs.Plans.{HasPlan, quiet_plan, left_by}
-use Rattle.grants.specs.Standing.{IsSame}
-use Rattle.grants.specs.declared.part.TreePart.{TreePart}
-use Rattle.grants.proofs.StandingLemmas.{same_ready}
+use Rattle.site_part.specs.Plans.{HasPlan, quiet_plan, left_by}
+use Rattle.site_part.specs.Standing.{IsSame}
+use Rattle.site_part.specs.declared.part.TreePart.{TreePart}
+use Rattle.site_part.proofs.StandingLemmas.{same_ready}
 use Rattle.new_pages.specs.Moving.{told_reply}
 use Rattle.tree_edits.specs.Naming.{IsBelow, AreNewUrls}
 use Rattle.new_pages.specs.Plans.{IsAsked, IsSoundTree, IsBelowRoot}

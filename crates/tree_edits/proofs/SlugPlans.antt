@@ -17,7 +17,7 @@ use Rattle.slug_urls.proofs.LawLemmas.{renaming_is, long_is_new}
 use Rattle.site_model.specs.World.{TreePart}
 use Rattle.site_model.specs.Rules.{first_of, refused_if}
 use Rattle.new_pages.specs.Plans.{PlansBy, IsSoundTree}
-use Rattle.grants.specs.declared.fault.Fault.{Fault}
+use Rattle.site_part.specs.declared.fault.Fault.{Fault}
 use Rattle.new_pages.specs.Faults.{of_url}
 use Rattle.site_model.specs.Slugs.{slug_rules}
 use Rattle.tree_edits.specs.Naming.{AreNewUrls}

@@ -5,8 +5,8 @@ use Rattle.site_types.specs.declared.body.Body.{Body}
 use Rattle.site_types.specs.declared.reply.Reply.TheVariants.{Done}
 use Rattle.site_model.specs.World as worlds
 use Rattle.flat_model.specs.Single.{body_change}
-use Rattle.grants.specs.Plans.{quiet_plan}
-use Rattle.grants.specs.declared.plan.Plan.{Plan}
+use Rattle.site_part.specs.Plans.{quiet_plan}
+use Rattle.site_part.specs.declared.plan.Plan.{Plan}
 use Rattle.tree_edits.specs.declared.detaching.Detached.{Detached}
 
 -- what is told of the next revision's id: it, or that it is past the last

@@ -3,15 +3,15 @@ ghost use Rattle.std.specs.Prelude.{◌≡◌, Option};
 ghost use Rattle.site_types.specs.Content.{ContentValue};
 ghost use Rattle.site_types.specs.declared.command.Command.TheVariants as commands;
 ghost use Rattle.site_model.specs.World as worlds;
-ghost use Rattle.grants.specs.Plans.{Prepares};
-ghost use Rattle.grants.specs.Standing.{IsSame};
+ghost use Rattle.site_part.specs.Plans.{Prepares};
+ghost use Rattle.site_part.specs.Standing.{IsSame};
 ghost use Rattle.new_pages.specs.Plans.{IsAsked};
 
 use crate::leaving::{LeftAliases, plan_leaving};
-use grants::{Change, Fault, Plan, TreeChange, TreePart};
 use lost_desks::lost_by_deletion;
 use new_pages::{later, make_room};
 use path_moves::plan_delete;
+use site_part::{Change, Fault, Plan, TreeChange, TreePart};
 use site_types::{Moment, PageId, Reply, UserId};
 use std::alloc::Global;
 

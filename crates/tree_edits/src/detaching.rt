@@ -4,16 +4,16 @@ ghost use Rattle.site_types.specs.Content.{ContentValue};
 ghost use Rattle.site_types.specs.declared.command.Command.TheVariants as commands;
 ghost use Rattle.site_model.specs.World as worlds;
 ghost use Rattle.site_model.specs.Aliases.{detach_rules};
-ghost use Rattle.grants.specs.Plans.{Prepares};
-ghost use Rattle.grants.specs.Standing.{IsReady, IsSame};
+ghost use Rattle.site_part.specs.Plans.{Prepares};
+ghost use Rattle.site_part.specs.Standing.{IsReady, IsSame};
 ghost use Rattle.new_pages.specs.Plans.{PlansBy, IsAsked};
 ghost use Rattle.tree_edits.specs.Leaving.{IsAliasHere, IsDetachedAt};
 ghost use Rattle.tree_edits.specs.Detaching.{RevisionGiven, regular_body, detaching_plan};
 
-use grants::{Change, Fault, Plan, TreePart, is_live_page};
 use new_pages::{later, make_room, new_revision, one_item};
 use page_copies::shown_content;
 use revision_shelf::MAX_CONTENT_SUM;
+use site_part::{Change, Fault, Plan, TreePart, is_live_page};
 use site_types::{Body, Moment, NoMemory, PageId, Refusal, Reply, Revision, RevisionId, UserId};
 use std::alloc::Global;
 

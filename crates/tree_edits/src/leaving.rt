@@ -10,15 +10,15 @@ ghost use Rattle.site_model.specs.World as worlds;
 ghost use Rattle.site_model.specs.Delete.{aliases_left, delete_rules};
 ghost use Rattle.site_model.specs.Limits.{MAX_CONTENTS, contents_length};
 ghost use Rattle.link_index.specs.Pairs.{seconds_of, PairsRise};
-ghost use Rattle.grants.specs.Standing.{IsReady};
+ghost use Rattle.site_part.specs.Standing.{IsReady};
 ghost use Rattle.new_pages.specs.Plans.{PlansBy, IsAsked};
 ghost use Rattle.tree_edits.specs.Leaving.{IsAliasHere, AreDetached, staying};
 
 use crate::detaching::{Detached, detach_page};
-use grants::{Fault, TreePart};
 use new_pages::{goes, later, weighs_more};
 use page_store::Rows;
 use revision_shelf::MAX_CONTENT_SUM;
+use site_part::{Fault, TreePart};
 use site_types::{
     Body, Ids, Items, LAST_REVISION_ID, Moment, NoMemory, PageId, Refusal, Revision, RevisionId,
     UserId,

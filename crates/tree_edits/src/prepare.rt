@@ -3,8 +3,8 @@ ghost use Rattle.std.specs.Prelude.{◌≡◌, ℕ, true, Option};
 ghost use Rattle.site_types.specs.Content.{ContentValue};
 ghost use Rattle.site_model.specs.World as worlds;
 ghost use Rattle.site_model.specs.Laws.{FitsCommand};
-ghost use Rattle.grants.specs.Standing.{IsReady, IsSame};
-ghost use Rattle.grants.specs.Plans.{Prepares};
+ghost use Rattle.site_part.specs.Standing.{IsReady, IsSame};
+ghost use Rattle.site_part.specs.Plans.{Prepares};
 ghost use Rattle.new_pages.specs.Plans.{IsAsked};
 ghost use Rattle.tree_edits.specs.OnTree.{is_on_tree};
 
@@ -12,8 +12,8 @@ use crate::deletion::plan_deletion;
 use crate::detaching::plan_detaching;
 use crate::moving::plan_moving;
 use crate::renaming::plan_renaming;
-use grants::{Fault, Plan, TreePart, front};
 use new_pages::{plan_aliasing, plan_copying, plan_creation};
+use site_part::{Fault, Plan, TreePart, front};
 use site_types::{Command, Content, Moment, UserId};
 use std::alloc::Global;
 

@@ -3,15 +3,15 @@ ghost use Rattle.std.specs.Prelude.{◌≡◌, ℕ, Option};
 ghost use Rattle.site_types.specs.Content.{ContentValue};
 ghost use Rattle.site_types.specs.declared.command.Command.TheVariants as commands;
 ghost use Rattle.site_model.specs.World as worlds;
-ghost use Rattle.grants.specs.Plans.{Prepares};
-ghost use Rattle.grants.specs.Standing.{IsSame};
+ghost use Rattle.site_part.specs.Plans.{Prepares};
+ghost use Rattle.site_part.specs.Standing.{IsSame};
 ghost use Rattle.new_pages.specs.Plans.{PlansBy, IsAsked};
 ghost use Rattle.site_model.specs.Slugs.{slug_rules};
 ghost use Rattle.tree_edits.specs.Naming.{IsBelow, AreNewUrls};
 
-use grants::{Change, Fault, Plan, TreeChange, TreePart};
 use new_pages::{later, told_page, url_fault};
 use page_store::{Relabels, Rows, Urls};
+use site_part::{Change, Fault, Plan, TreeChange, TreePart};
 use site_types::{Moment, PageId, Refusal, Slug};
 use slug_urls::plan_urls;
 use std::alloc::Global;

@@ -70,6 +70,9 @@ pub none_past : (numbers : List ℕ) (place : ℕ) → length numbers < place �
     0 ≡ number_at numbers place
 none_past [] place past = refl
 none_past (number ∷ numbers) zero past = refl
-none_past (number ∷ numbers) (suc zero) past = let never : ⊥ = omega (arith, past) in absurd never
+none_past (number ∷ numbers) (suc zero) past = absurd never
+  where
+    never : ⊥
+    never = omega (arith, past)
 none_past (number ∷ numbers) (suc (suc place)) past =
     none_past numbers (suc place) (omega (arith, past))

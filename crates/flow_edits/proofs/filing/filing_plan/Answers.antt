@@ -2,9 +2,9 @@
 use Rattle.std.proofs.Common.{sym, ap, ◌∙◌}
 use Rattle.site_types.specs.declared.body.Body.{Body}
 use Rattle.flow_edits.specs.Plans.{filing_plan}
-use Rattle.flat_model.proofs.KeptPages.{same_body}
 use Rattle.moderating.proofs.Facts.{not_missing}
 use Rattle.flow_edits.proofs.filing.filing_plan.Goals as goal
+use Rattle.site_model.proofs.RegularLemmas.{same_body}
 
 pub unreachable-requires : goal.unreachable-requires
 unreachable-requires c =

@@ -3,9 +3,9 @@ use Rattle.std.proofs.Common.{◌≡◌, ap}
 use Rattle.std.specs.Option.{option_copied}
 use Rattle.site_model.specs.Desks as desks
 use Rattle.site_types.specs.declared.revision.Revision.{Revision}
-use Rattle.grants.specs.Standing.{IsSame}
-use Rattle.grants.specs.declared.part.TreePart.{TreePart}
-use Rattle.grants.proofs.StandingLemmas.{same_ready, same_shelf}
+use Rattle.site_part.specs.Standing.{IsSame}
+use Rattle.site_part.specs.declared.part.TreePart.{TreePart}
+use Rattle.site_part.proofs.StandingLemmas.{same_ready, same_shelf}
 use Rattle.flow_edits.proofs.FilePlans.{file_none, file_refused, file_prepared, filed_there}
 use Rattle.flow_edits.proofs.filing.plan_filing.Goals as goal
 

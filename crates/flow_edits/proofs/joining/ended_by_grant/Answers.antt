@@ -1,7 +1,7 @@
 -- No desk ends as a grant is given.
 use Rattle.std.proofs.Common.{◌≡◌, ℕ, List, Bool, sym, subst}
 use Rattle.std.specs.Result.{IfOk}
-use Rattle.grants.specs.Plans.{pages_of}
+use Rattle.site_part.specs.Plans.{pages_of}
 use Rattle.flow_edits.specs.People.{grant_lost}
 use Rattle.flow_edits.proofs.joining.ended_by_grant.Goals as goal
 

@@ -1,7 +1,7 @@
 -- Whether it is so already, then the group, then the room; and the desks that end.
 use Rattle.std.proofs.Common.{true, false, sym, ap, ◌∙◌}
 use mathlib.Core.Bool.{beq}
-use Rattle.grants.proofs.StandingLemmas.{same_both}
+use Rattle.site_part.proofs.StandingLemmas.{same_both}
 use Rattle.flow_edits.proofs.JoiningPlans.{agree_not, grant_known, grant_new, grant_no_group, grant_full, grant_planned, not_turned}
 use Rattle.flow_edits.proofs.joining.plan_grant.Goals as goal
 

@@ -1,7 +1,7 @@
 -- Whether it is so already, then the user, then the group; and the desks that end.
 use Rattle.std.proofs.Common.{sym, ap, ◌∙◌}
 use mathlib.Core.Bool.{beq}
-use Rattle.grants.proofs.StandingLemmas.{same_both}
+use Rattle.site_part.proofs.StandingLemmas.{same_both}
 use Rattle.flow_edits.proofs.JoiningPlans.{agree_not, member_known, member_no_user, member_no_group, member_planned}
 use Rattle.flow_edits.proofs.joining.plan_member.Goals as goal
 

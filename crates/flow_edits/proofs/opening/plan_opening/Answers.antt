@@ -2,11 +2,11 @@
 use Rattle.std.proofs.Common.{◌≡◌, Some, max, sym, ap, subst}
 use Rattle.site_model.specs.Bodies.{latest_content}
 use Rattle.site_types.specs.declared.command.Command.TheVariants as commands
-use Rattle.grants.specs.Plans.{HasPlan}
-use Rattle.grants.specs.Standing.{IsSame}
-use Rattle.grants.specs.declared.part.TreePart.{TreePart}
-use Rattle.grants.specs.declared.plan.Plan.{Plan}
-use Rattle.grants.proofs.StandingLemmas.{same_ready, same_pairs}
+use Rattle.site_part.specs.Plans.{HasPlan}
+use Rattle.site_part.specs.Standing.{IsSame}
+use Rattle.site_part.specs.declared.part.TreePart.{TreePart}
+use Rattle.site_part.specs.declared.plan.Plan.{Plan}
+use Rattle.site_part.proofs.StandingLemmas.{same_ready, same_pairs}
 use Rattle.flow_edits.proofs.OpenPlans.{open_refused, open_planned}
 use Rattle.flow_edits.proofs.opening.plan_opening.Goals as goal
 

@@ -6,8 +6,8 @@ use Rattle.site_types.specs.declared.reply.Reply.TheVariants.{Done}
 use Rattle.flat_model.specs.Single.{tree_change}
 use Rattle.flat_model.specs.declared.change.Change.{Change}
 use Rattle.flat_model.specs.declared.change.TreeChange.TheVariants.{Nothing}
-use Rattle.grants.specs.Plans.{HasPlan}
-use Rattle.grants.specs.declared.plan.Plan.{Plan}
+use Rattle.site_part.specs.Plans.{HasPlan}
+use Rattle.site_part.specs.declared.plan.Plan.{Plan}
 use Rattle.moderating.specs.Plans.{ending_plan}
 use Rattle.flow_edits.proofs.OpenPlans.{shut_none, shut_planned}
 use Rattle.flow_edits.proofs.opening.plan_shutting.Goals as goal

@@ -2,7 +2,7 @@
 use Rattle.std.proofs.Common.{sym, subst}
 use Rattle.std.specs.Option.{option_copied}
 use Rattle.site_types.specs.declared.command.Command.{Command}
-use Rattle.grants.specs.Plans.{Prepares}
+use Rattle.site_part.specs.Plans.{Prepares}
 use Rattle.moderating.specs.Asked.{IsAsked}
 use Rattle.flow_edits.proofs.prepare.plan_passed.Goals as goal
 

@@ -1,8 +1,8 @@
 -- The first rules are tried, and then the command is planned.
 use Rattle.std.proofs.Common.{sym, ◌∙◌}
 use Rattle.std.specs.Option.{option_copied}
-use Rattle.grants.proofs.FrontLemmas.{passed, refused}
-use Rattle.grants.proofs.StepLemmas.{front_refuses}
+use Rattle.site_part.proofs.FrontLemmas.{passed, refused}
+use Rattle.site_part.proofs.StepLemmas.{front_refuses}
 use Rattle.flow_edits.proofs.prepare.prepare_flow.Goals as goal
 
 pub front-requires : goal.front-requires

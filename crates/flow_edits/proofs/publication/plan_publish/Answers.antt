@@ -3,7 +3,7 @@ use Rattle.std.proofs.Common.{max, sym, ap, ◌∙◌}
 use Rattle.std.specs.Option.{option_copied}
 use Rattle.site_types.specs.declared.body.Body.{Body}
 use Rattle.site_model.specs.LosingLaws.{desks_lost_with}
-use Rattle.grants.specs.Plans.{pages_of}
+use Rattle.site_part.specs.Plans.{pages_of}
 use Rattle.moderating.proofs.Facts.{latest_there}
 use Rattle.flow_edits.proofs.Facts.{publish_names, publish_regular}
 use Rattle.flow_edits.proofs.PublishPlans.{publish_known, publish_late, publish_prepared}

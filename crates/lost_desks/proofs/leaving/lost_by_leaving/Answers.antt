@@ -6,7 +6,7 @@ use Rattle.site_model.specs.World.{TreePart}
 use Rattle.site_model.specs.Sound.{KeysRise}
 use Rattle.site_model.specs.Users.{member_key, is_membership, members_after}
 use Rattle.flat_model.specs.People.{members_with}
-use Rattle.grants.proofs.StandingLemmas.{same_grants}
+use Rattle.site_part.proofs.StandingLemmas.{same_grants}
 use Rattle.lost_desks.proofs.BackLemmas.{member_back, member_gone}
 use Rattle.lost_desks.proofs.leaving.lost_by_leaving.Goals as goal
 

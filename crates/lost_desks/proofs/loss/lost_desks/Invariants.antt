@@ -1,7 +1,7 @@
 -- The pages are those of the desks so far that end.
 use Rattle.std.proofs.Common.{◌≡◌, take, filter}
 use Rattle.site_model.specs.World as worlds
-use Rattle.grants.specs.Plans.{pages_of}
+use Rattle.site_part.specs.Plans.{pages_of}
 use Rattle.lost_desks.specs.Losses.{is_lost_by}
 use Rattle.lost_desks.specs.Staying.{HasDesksOf}
 use Rattle.lost_desks.proofs.loss.lost_desks.Given as goal

@@ -1,7 +1,7 @@
 -- A desk is lost on a page that goes along if its user may not edit there.
 use Rattle.std.proofs.Common.{◌≡◌, true, sym, ◌∙◌}
 use Rattle.site_model.specs.Losing.{is_within}
-use Rattle.grants.proofs.LiveLemmas.{body_found, body_missing}
+use Rattle.site_part.proofs.LiveLemmas.{body_found, body_missing}
 use Rattle.lost_desks.proofs.BelowLemmas.{kept_outside, lost_inside}
 use Rattle.lost_desks.proofs.WayLemmas.{nowhere}
 use Rattle.lost_desks.proofs.moving.is_lost_below.Goals as goal

@@ -7,4 +7,6 @@ returns c world has within kept =
     rw (c.eq-own.ensures)
     (edits_if world c.args.top c.args.parent c.args.page c.args.user c.args.body.now c.held-held.result
     c.granted_from-granted.result c.moderates-asked.result kept
-    (c.moderates-asked.ensures world has.lists has.flows) (c.held-held.ensures world has.pages has.lists) (c.granted_from-granted.ensures world has within))
+    (c.moderates-asked.ensures world has.lists has.flows)
+    (c.held-held.ensures world has.pages has.lists)
+    (c.granted_from-granted.ensures world has within))

@@ -1,6 +1,6 @@
 -- What is kept of the page decides.
 use Rattle.std.proofs.Common.{◌∙◌}
-use Rattle.grants.proofs.LiveLemmas.{body_found, body_missing}
+use Rattle.site_part.proofs.LiveLemmas.{body_found, body_missing}
 use Rattle.lost_desks.proofs.StayLemmas.{gone_loses, stays_by}
 use Rattle.lost_desks.proofs.staying.stays.Goals as goal
 

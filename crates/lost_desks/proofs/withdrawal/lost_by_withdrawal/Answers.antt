@@ -6,7 +6,7 @@ use Rattle.site_model.specs.World.{TreePart}
 use Rattle.site_model.specs.Sound.{KeysRise}
 use Rattle.site_model.specs.Users.{grant_key, is_grant, grants_after}
 use Rattle.flat_model.specs.People.{grants_with}
-use Rattle.grants.proofs.StandingLemmas.{same_grants}
+use Rattle.site_part.proofs.StandingLemmas.{same_grants}
 use Rattle.lost_desks.proofs.BackLemmas.{grant_back, grant_gone}
 use Rattle.lost_desks.proofs.withdrawal.lost_by_withdrawal.Goals as goal
 

@@ -1,5 +1,5 @@
 -- A page that is there is looked at.
-use Rattle.grants.proofs.LiveLemmas.{body_missing}
+use Rattle.site_part.proofs.LiveLemmas.{body_missing}
 use Rattle.lost_desks.proofs.StayLemmas.{row_is_there}
 use Rattle.lost_desks.proofs.WayLemmas.{nowhere}
 use Rattle.lost_desks.proofs.within.is_within.Goals as goal

@@ -1,6 +1,6 @@
 -- A row has what is kept of its page.
 use Rattle.std.proofs.Common.{sym}
-use Rattle.grants.proofs.LiveLemmas.{body_found, body_missing}
+use Rattle.site_part.proofs.LiveLemmas.{body_found, body_missing}
 use Rattle.moderating.proofs.telling.body_of.Goals as goal
 
 pub returns-in-Some : goal.returns-in-Some

@@ -1,7 +1,7 @@
 -- The revisions so far with those that are left are all.
 use Rattle.std.proofs.Common.{◌≡◌, ◌+◌, ◌++◌, length}
 use Rattle.site_model.specs.World as worlds
-use Rattle.grants.specs.Standing.{IsReady}
+use Rattle.site_part.specs.Standing.{IsReady}
 use Rattle.page_copies.specs.Copied.{revisions_of}
 use Rattle.new_pages.proofs.copied_rows.coming_revisions.Given as goal
 

@@ -2,7 +2,7 @@
 use Rattle.std.proofs.Common.{◌≡◌, ◌+◌, ◌∷◌, map, take, drop}
 use Rattle.site_model.specs.World as worlds
 use Rattle.site_model.specs.Create.{fresh_body}
-use Rattle.grants.specs.Standing.{IsReady}
+use Rattle.site_part.specs.Standing.{IsReady}
 use Rattle.page_copies.specs.Copied.{copy_rows}
 use Rattle.new_pages.specs.Copying.{AreLeft, moved_row}
 use Rattle.new_pages.specs.Making.{row_at}

@@ -1,6 +1,6 @@
 -- A row has what is kept of its page.
 use Rattle.std.proofs.Common.{refl}
-use Rattle.grants.proofs.LiveLemmas.{body_found, body_missing}
+use Rattle.site_part.proofs.LiveLemmas.{body_found, body_missing}
 use Rattle.page_copies.proofs.alias.plan_alias.Goals as goal
 
 pub returns-in_default : goal.returns-in_default

@@ -1,6 +1,6 @@
 -- The row of the source has what the source shows.
 use Rattle.std.proofs.Common.{sym, ◌∙◌}
-use Rattle.grants.proofs.LiveLemmas.{body_found, body_missing}
+use Rattle.site_part.proofs.LiveLemmas.{body_found, body_missing}
 use Rattle.page_copies.proofs.ShownLemmas.{shows_source, shows_none}
 use Rattle.page_copies.proofs.content.shown_content.Goals as goal
 

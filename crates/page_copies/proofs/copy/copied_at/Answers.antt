@@ -1,5 +1,5 @@
 -- The row of the page at the place has what is kept of it.
-use Rattle.grants.proofs.OwnLemmas.{place_has_row}
+use Rattle.site_part.proofs.OwnLemmas.{place_has_row}
 use Rattle.page_copies.proofs.CopyLemmas.{not_missing, pair_is}
 use Rattle.page_copies.proofs.copy.copied_at.Goals as goal
 

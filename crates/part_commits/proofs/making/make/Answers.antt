@@ -7,7 +7,7 @@ use Rattle.publishing.specs.Times.{AreTimed}
 use Rattle.flat_model.specs.Fits.{BodiesFit, RevisionsFit, PeopleFit}
 use Rattle.flat_model.specs.Made.{with_bodies, made, rows_made, revisions_left, purge_left, people_left, people_made}
 use Rattle.flat_model.proofs.ListLemmas.{lists_are}
-use Rattle.grants.specs.Standing.{seen, seen_people}
+use Rattle.site_part.specs.Standing.{seen, seen_people}
 use Rattle.part_commits.specs.InStep.{TimedBut}
 use Rattle.part_commits.proofs.InStepLemmas.{timed_but}
 use Rattle.part_commits.proofs.StayLemmas.{fits_left}

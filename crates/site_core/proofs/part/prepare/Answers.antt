@@ -2,7 +2,7 @@
 use Rattle.std.proofs.Common.{subst}
 use Rattle.std.specs.Option.{option_copied}
 use Rattle.site_ids.specs.Moment.{IsMoment}
-use Rattle.grants.proofs.StandingLemmas.{same_both}
+use Rattle.site_part.proofs.StandingLemmas.{same_both}
 use Rattle.site_core.proofs.LinkRoom.{plan_fits, plan_tells, stays_with_links, links_fit}
 use Rattle.site_core.proofs.RoomLemmas.{alike_same, room_alike, links_alike, same_throughout, plan_alike, plan_stays}
 use Rattle.site_core.proofs.part.prepare.Goals as goal

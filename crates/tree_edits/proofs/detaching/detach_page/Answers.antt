@@ -1,6 +1,6 @@
 -- The row of the page has what is kept of it, and what it shows is there.
 use Rattle.std.proofs.Common.{◌∙◌}
-use Rattle.grants.proofs.LiveLemmas.{body_found}
+use Rattle.site_part.proofs.LiveLemmas.{body_found}
 use Rattle.site_model.proofs.SourceLemmas.{found_is_there}
 use Rattle.tree_edits.proofs.DetachLemmas.{detached_is, shown_is, not_missing, row_missing}
 use Rattle.tree_edits.proofs.detaching.detach_page.Goals as goal

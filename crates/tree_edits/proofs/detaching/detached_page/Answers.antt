@@ -3,7 +3,7 @@ use Rattle.std.proofs.Common.{◌+◌, length, max, ap, subst, ◌∙◌}
 use Rattle.site_model.specs.Limits.{contents_length}
 use Rattle.site_types.specs.Content.{content_form}
 use Rattle.site_types.specs.declared.revision.Revision.{Revision}
-use Rattle.grants.proofs.LiveLemmas.{body_found}
+use Rattle.site_part.proofs.LiveLemmas.{body_found}
 use Rattle.site_model.specs.World as worlds
 use Rattle.tree_edits.specs.Leaving.{IsDetachedAt}
 use Rattle.new_pages.proofs.CommandLemmas.{detach_names}

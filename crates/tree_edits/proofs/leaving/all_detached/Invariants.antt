@@ -2,7 +2,7 @@
 use Rattle.std.proofs.Common.{◌≡◌, take}
 use Rattle.site_model.specs.Delete.{detached_revisions}
 use Rattle.site_model.specs.World as worlds
-use Rattle.grants.specs.Standing.{IsReady}
+use Rattle.site_part.specs.Standing.{IsReady}
 use Rattle.std.specs.List.{AllByRecursion}
 use Rattle.tree_edits.specs.Leaving.{IsAliasHere, detached_pairs}
 use Rattle.tree_edits.proofs.leaving.all_detached.Given as goal

@@ -3,7 +3,7 @@ use Rattle.std.proofs.Common.{◌≡◌, ◌≤◌, ◌++◌, drop}
 use Rattle.page_tree.specs.Tree.{node_of}
 use Rattle.link_index.specs.Pairs.{PairsRise}
 use Rattle.site_model.specs.World as worlds
-use Rattle.grants.specs.Standing.{IsReady}
+use Rattle.site_part.specs.Standing.{IsReady}
 use Rattle.tree_edits.proofs.LeavingFound.{found}
 use Rattle.tree_edits.proofs.leaving.left_aliases.Given as goal
 

@@ -4,8 +4,8 @@ use Rattle.page_tree.specs.Tree.{has_page, node_of}
 use Rattle.site_types.specs.declared.revision.Revision.{Revision}
 use Rattle.site_model.specs.Limits.{MAX_CONTENTS, contents_length}
 use Rattle.site_model.specs.World as worlds
-use Rattle.grants.specs.Standing.{IsReady}
-use Rattle.grants.specs.declared.part.TreePart.{TreePart}
+use Rattle.site_part.specs.Standing.{IsReady}
+use Rattle.site_part.specs.declared.part.TreePart.{TreePart}
 use Rattle.revision_shelf.specs.Shelf.{total_weight}
 use Rattle.new_pages.proofs.CreationRules.{weights_are}
 use Rattle.tree_edits.proofs.LeavingMade.{room_beside_all, room_beside}

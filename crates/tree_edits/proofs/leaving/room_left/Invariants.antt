@@ -3,7 +3,7 @@ use Rattle.std.proofs.Common.{◌≡◌, ◌+◌, not, take, filter}
 use Rattle.page_tree.specs.Tree.{has_page, node_of}
 use Rattle.site_model.specs.Limits.{MAX_CONTENTS, contents_length}
 use Rattle.site_model.specs.World as worlds
-use Rattle.grants.specs.Standing.{IsReady}
+use Rattle.site_part.specs.Standing.{IsReady}
 use Rattle.tree_edits.proofs.leaving.room_left.Given as goal
 
 abbrev pub invariant-loop-place : goal.invariant-loop-place

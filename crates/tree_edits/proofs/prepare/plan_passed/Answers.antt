@@ -1,7 +1,7 @@
 -- Each command is planned by the function for it.
 use Rattle.std.proofs.Common.{sym, subst}
 use Rattle.site_types.specs.declared.command.Command.{Command}
-use Rattle.grants.specs.Plans.{Prepares}
+use Rattle.site_part.specs.Plans.{Prepares}
 use Rattle.new_pages.specs.Plans.{IsAsked}
 use Rattle.tree_edits.proofs.prepare.plan_passed.Goals as goal
 

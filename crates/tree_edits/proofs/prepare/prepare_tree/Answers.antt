@@ -1,7 +1,7 @@
 -- The first rules are tried, and then the command is planned.
 use Rattle.std.proofs.Common.{sym, ◌∙◌}
-use Rattle.grants.proofs.FrontLemmas.{passed, refused}
-use Rattle.grants.proofs.StepLemmas.{front_refuses}
+use Rattle.site_part.proofs.FrontLemmas.{passed, refused}
+use Rattle.site_part.proofs.StepLemmas.{front_refuses}
 use Rattle.tree_edits.proofs.prepare.prepare_tree.Goals as goal
 
 pub front-requires : goal.front-requires

@@ -3,7 +3,7 @@ use Rattle.std.proofs.Common.{List, nat_eq, map, filter, ap, ◌∙◌}
 use Rattle.std.specs.List.{list_any}
 use Rattle.site_types.specs.declared.world_rows.Member.{Member}
 use Rattle.site_model.specs.Rights.{has_group}
-use Rattle.grants.proofs.AskingLemmas.{members_asked}
+use Rattle.grants.proofs.GroupLemmas.{members_asked}
 use Rattle.grants.proofs.store.Grants.is_in_any.Goals as goal
 
 pub returns : goal.returns

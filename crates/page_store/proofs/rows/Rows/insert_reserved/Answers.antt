@@ -47,7 +47,12 @@ kept_then : (c : goal.After-put_at) →
     c.self.inside.stored.entries c.self.inside.order.items))
 kept_then c =
     let p = c.parent_of-parent.result in
-    let new : StoredRow = record { row = c.args.row; url = c.args.url; parent = c.page.result; counted = false } in
+    let new : StoredRow = record {
+      row = c.args.row;
+      url = c.args.url;
+      parent = c.page.result;
+      counted = false;
+    } in
     let is = subst (λ (v : RowList). IsNewRow v.pages c.args.row) (sym c.self.view_is) c.requires.new in
     let found = parent_by_path _ c.args.row.path _ _ p c.as_slice.ensures.value c.self.view_is
     c.parent_of-parent.ensures in

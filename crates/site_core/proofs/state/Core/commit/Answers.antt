@@ -2,8 +2,8 @@
 use Rattle.std.proofs.Common.{ap, sym, subst, ◌∙◌}
 use Rattle.std.specs.List.{AllByRecursion}
 use Rattle.site_ids.specs.Ids.{IsPageId}
-use Rattle.grants.specs.Plans.{PlanFits, left_by}
-use Rattle.grants.proofs.StandingLemmas.{stands_seen, seen_stands}
+use Rattle.site_part.specs.Plans.{PlanFits, left_by}
+use Rattle.site_part.proofs.StandingLemmas.{stands_seen, seen_stands}
 use Rattle.part_commits.specs.InStep.{CanStayInStep}
 use Rattle.site_core.specs.Texts.{OpensWell, kept_on}
 use Rattle.site_core.proofs.PrepareLemmas.{left_told}

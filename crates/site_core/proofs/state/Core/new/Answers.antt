@@ -1,7 +1,7 @@
 -- The root alone is in step without moments, aliases and links, and no desk is open.
 use Rattle.std.proofs.Common.{refl, rules}
-use Rattle.grants.specs.Standing.{InStep, IsLinked}
-use Rattle.grants.specs.declared.part.TreePart.{TreePart}
+use Rattle.site_part.specs.Standing.{InStep, IsLinked}
+use Rattle.site_part.specs.declared.part.TreePart.{TreePart}
 use Rattle.site_core.proofs.StartStep.{start_in_step, start_linked}
 use Rattle.site_core.proofs.state.Core.new.Goals as goal
 

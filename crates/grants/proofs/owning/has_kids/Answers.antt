@@ -1,8 +1,0 @@
--- The number of kids stands in the page's row.
-use Rattle.grants.proofs.OwnLemmas.{row_kids}
-use Rattle.grants.proofs.owning.has_kids.Goals as goal
-
-pub returns : goal.returns
-returns c tree same =
-    row_kids c.args.rows.now.pages c.len-len.ensures.pages tree same c.args.page c.in-Some.row.now
-    c.in-Some.ensures

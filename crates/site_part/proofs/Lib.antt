@@ -1,0 +1,10 @@
+pub mod LiveLemmas
+pub mod AskingLemmas
+pub mod NeedLemmas
+pub mod CountedLemmas
+pub mod PassingLemmas
+pub mod OwnLemmas
+pub mod StandingLemmas
+pub mod LeftLemmas
+pub mod StepLemmas
+pub mod FrontLemmas

@@ -1,0 +1,5 @@
+pub mod Standing
+pub mod Live
+pub mod Stopping
+pub mod Needs
+pub mod Plans

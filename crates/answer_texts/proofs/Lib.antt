@@ -1,2 +1,3 @@
 pub mod FloatLemmas
 mod ResponseExamples
+mod MemoryText

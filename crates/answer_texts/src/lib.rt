@@ -10,5 +10,5 @@ mod reply;
 mod response;
 
 pub use http_wire::{NoMemory, Response};
-pub use response::to_response;
+pub use response::{memory_text, to_response};
 pub use wire_model::Answer;

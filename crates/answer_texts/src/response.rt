@@ -3,7 +3,8 @@ ghost use Rattle.std.specs.Prelude.{◌≡◌, false, IfOk};
 ghost use Rattle.serde_json.specs.View.{view};
 ghost use Rattle.serde_json.specs.Written.{compact_text, has_float};
 ghost use Rattle.http_wire.specs.Responding as wire;
-ghost use Rattle.wire_model.specs.Answers.{head_status, head_error, error_data, plain_response, response_of};
+ghost use Rattle.http_model.specs.Responses.{response_text};
+ghost use Rattle.wire_model.specs.Answers.{head_status, head_error, error_data, disk_data, plain_response, response_of};
 
 use crate::card::card_value;
 use crate::public::public_value;
@@ -58,8 +59,38 @@ pub fn to_response(alloc: Global, answer: &Answer) -> Result<Response, NoMemory>
         Answer::Form => named(alloc, StatusCode::BadRequest, "Form"),
         Answer::NoUser => named(alloc, StatusCode::Unauthorized, "NoUser"),
         Answer::Head(status) => named(alloc, head_status(*status), head_error(*status)),
+        Answer::Disk(before, after) => {
+            let value = disk_value(alloc, *before, *after)?;
+            plain(alloc, StatusCode::ServerError, &value)
+        }
         Answer::Memory => named(alloc, StatusCode::Unavailable, "Memory"),
     }
+}
+
+/// The text of the response to `Answer::Memory`, if the connection goes on.
+const MEMORY_TEXT: &[u8] =
+    b"HTTP/1.1 503 Service Unavailable\r\nContent-Length: 18\r\nContent-Type: application/json\r\n\r\n\
+      {\"error\":\"Memory\"}";
+
+/// The same text if the connection ends after it.
+const LAST_MEMORY_TEXT: &[u8] =
+    b"HTTP/1.1 503 Service Unavailable\r\nContent-Length: 18\r\nContent-Type: application/json\r\n\
+      Connection: close\r\n\r\n{\"error\":\"Memory\"}";
+
+/// The text of the response to `Answer::Memory`; `last` if the connection ends after it. It takes no
+/// memory.
+#[tactic(auto, unfolding(wire_model::specs::Answers::response_of))]
+pub fn memory_text(last: bool) -> &'static [u8]
+    ensures { result.now ≡ response_text (response_of Answer.Memory) last }
+{
+    if last { LAST_MEMORY_TEXT } else { MEMORY_TEXT }
+}
+
+/// The body that tells of a disk that failed, with its counts of faults before the call and after.
+fn disk_value(alloc: Global, before: u64, after: u64) -> Result<Value, NoMemory>
+    ensures { IfOk result (λ value. view value ≡ disk_data before after) }
+{
+    Ok(json!(in alloc; {"after": after, "before": before, "error": "Disk"})?)
 }
 
 /// The response with this status, whose body names an error.

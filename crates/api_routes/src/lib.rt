@@ -13,7 +13,7 @@ mod path;
 mod router;
 mod table;
 
-pub use answer_texts::to_response;
+pub use answer_texts::{memory_text, to_response};
 pub use call::to_call;
 pub use http_wire::{Allow, Method, NoMemory, Request, Response};
 pub use router::Routes;

@@ -173,12 +173,12 @@ module _ (kept room : TreePart) (part : worlds.TreePart) (desk : Option ContentV
         (both_hold (nat_eq pair.page page) (nat_eq pair.user caller) is).0) one)
 
     -- the caller's own desk ends
-    file_ends : (left : worlds.TreePart) (told : worlds.Effect) →
-        step_by part desk now caller (commands.File page go_live expire) ≡ Ok (left, told) →
-        told.ended ≡ filter (is_callers page caller) part.desk_pairs
+    file_ends : (left : worlds.TreePart) (effect : worlds.Effect) →
+        step_by part desk now caller (commands.File page go_live expire) ≡ Ok (left, effect) →
+        effect.ended ≡ filter (is_callers page caller) part.desk_pairs
     unfolding suspects_of shuts desk_page
-    file_ends left told is =
-        ends_own part left told desk now caller (commands.File page go_live expire)
+    file_ends left effect is =
+        ends_own part left effect desk now caller (commands.File page go_live expire)
         asked.given.ready.reached.sound refl is
 
     -- its plan

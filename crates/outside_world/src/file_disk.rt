@@ -11,9 +11,10 @@ use std::os::unix::fs::FileExt;
 
 /// The files `pages.0` to `pages.3` of one folder. Nothing is buffered.
 ///
-/// A file that cannot be opened or made fails at each call on it. It is not told as honest: what a
-/// real file keeps is taken on trust. It keeps the length of each file, and no other process may
-/// change one.
+/// A file that cannot be opened or made, or that another open disk holds, fails at each call on it:
+/// each file is held by an advisory lock (`flock`) until the disk is dropped or its process ends. It is
+/// not told as honest: what a real file keeps is taken on trust. It keeps the length of each file, and
+/// no process that does not ask for that lock may change one.
 #[derive(Drop)]
 pub struct FileDisk {
     files: [Option<File>; 4],
@@ -141,7 +142,7 @@ fn measured(file: &Option<File>) -> u64 {
     }
 }
 
-/// A file of the folder and its length, or none and 0 if it cannot be opened or made.
+/// A file of the folder and its length, or none and 0 if it cannot be opened, made or held.
 fn open_or_none(rt: &HostRuntime, folder: &str, number: u8) -> (Option<File>, u64) {
     match open_pages(rt, folder, number) {
         Ok((file, size)) => (Some(file), size),
@@ -149,7 +150,8 @@ fn open_or_none(rt: &HostRuntime, folder: &str, number: u8) -> (Option<File>, u6
     }
 }
 
-/// Opens a file of the folder, or makes it and brings it and its name to the disk.
+/// Opens a file of the folder, or makes it and brings it and its name to the disk, and holds it by a
+/// lock before its length is measured.
 fn open_pages(rt: &HostRuntime, folder: &str, number: u8) -> io::Result<(File, u64)> {
     let path = format!(in rt.alloc(); "{folder}/pages.{number}")?;
     let file = match OpenOptions::new()
@@ -160,6 +162,9 @@ fn open_pages(rt: &HostRuntime, folder: &str, number: u8) -> io::Result<(File, u
         Err(error) if error.kind() == io::ErrorKind::NotFound => make(rt, folder, path.as_str())?,
         opened => opened?,
     };
+    if file.try_lock().is_err() {
+        return Err(io::Error::from(io::ErrorKind::WouldBlock));
+    }
     let size = file.metadata()?.len();
     Ok((file, size))
 }

@@ -1,6 +1,8 @@
 pub mod AnswerLemmas
+pub mod CallLemmas
 pub mod ClockLemmas
+pub mod EndLemmas
 pub mod OutcomeLemmas
 pub mod SessionLemmas
-pub mod SiteLemmas
+pub mod StoreLemmas
 pub mod WordLemmas

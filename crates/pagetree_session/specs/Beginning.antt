@@ -1,26 +1,17 @@
--- The history that a session starts with.
-use Rattle.std.specs.Prelude.{ℕ, List, []}
-use Rattle.site_history.specs.History.{Tally}
-use Rattle.site_history.specs.Log.{Log}
-use Rattle.site_model.specs.Start.{new_world}
-use Rattle.site_model.specs.World.{World}
-use Rattle.wire_model.specs.Exchange.{Past}
-use Rattle.pagetree_session.specs.declared.session.TheConstants.{ABC_DIGEST}
-use Rattle.pagetree_session.specs.declared.memory_site.MemorySite.{MemorySite}
-use Rattle.pagetree_session.specs.Standing.{StandsFor}
+-- The history that a session starts with, by what is in the file of the journal.
+use Rattle.std.specs.Prelude.{ℕ, ◌≡◌, List, []}
+use Rattle.site_store.specs.Opening.{start, BeginsAt, BeginsWith}
+use Rattle.site_store.specs.Recovery.{end_of}
+use Rattle.wire_model.specs.Exchange.{Past, IsLegal}
 
--- a log in which nothing was written, as in memory nothing is
-abbrev pub empty_log : Log
-empty_log = record { entries = 0; bytes = 0; journal = 0 }
-
--- what the history of a new site comes to, whose first user's token has this digest
-abbrev pub new_tally : List ℕ → Tally World
-new_tally digest = record { world = new_world digest; number = 0; log = empty_log }
-
--- the history without items of a new site, whose first user has the token `abc`
-unfoldable pub start : Past
-start = record { start = new_tally ABC_DIGEST; items = [] }
-
--- the site stands for a new world, whose first user has the token `abc`
-abbrev pub IsNewSite : MemorySite → Type 0
-IsNewSite site = StandsFor site (new_tally ABC_DIGEST)
+-- A history that a session starts with, on a disk whose file 3 has these bytes: it has no items, its
+-- log has no entries yet, and, if the disk is honest, it is where the file recovers to, with as many
+-- bytes of the journal as the file has up to its first gate that is not open; a new site if the file is
+-- empty, whose first user has the token `abc`.
+pub record IsStart (honest : Type 0) (file : List ℕ) (past : Past) : Type 0 where
+  pub legal : IsLegal past
+  pub fresh : past.items ≡ []
+  pub no_entries : past.start.log.entries ≡ 0
+  pub no_bytes : past.start.log.bytes ≡ 0
+  pub begins : honest → BeginsAt 1 start file (end_of past)
+  pub journal : honest → BeginsWith 1 start.number file past.start.log.journal

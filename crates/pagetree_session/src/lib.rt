@@ -1,9 +1,8 @@
-//! The commands of the program `pagetree`: a session over a site in memory.
+//! The commands of the program `pagetree`: a session over a site on a disk.
 #![tactic(auto)]
 
 mod answer;
 pub mod laws;
-mod memory_site;
 mod options;
 mod run;
 mod session;
@@ -12,6 +11,7 @@ mod words;
 
 pub use options::Options;
 pub use run::run_command;
-pub use session::ANSWER_LIMIT;
+pub use session::{ANSWER_LIMIT, CommandEnd};
+pub use site_store::Disk;
 pub use status::Status;
 pub use words::Words;

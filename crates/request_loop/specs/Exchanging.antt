@@ -63,6 +63,13 @@ Responds answer last before after (Err BeforeWriting) = after ≡ before
 Responds answer last before after (Err InWriting) =
     AppendsPart before after (answer_text answer last)
 
+-- what the text of a response leaves in the sink, by how it went: all of it, or a first part
+abbrev pub Writes : List ℕ → Option (List ℕ) → Option (List ℕ) → Result Unit Interrupted → Type 0
+Writes text before after (Ok _) = after ≡ with_back before text
+Writes text before after (Err BeforeAnswer) = ⊥
+Writes text before after (Err BeforeWriting) = ⊥
+Writes text before after (Err InWriting) = AppendsPart before after text
+
 -- the end of a connection whose exchange stopped
 abbrev pub stopped_by : Interrupted → ConnectionEnd
 stopped_by BeforeAnswer = Memory

@@ -3,11 +3,11 @@ ghost use Rattle.std.specs.Prelude.{◌≡◌, ◌+◌, ◌≤◌, ℕ, IfOk, Is
 ghost use Rattle.outside_world.specs.Faults.{Rose};
 ghost use Rattle.http_wire.specs.Reading.{request_of};
 ghost use Rattle.wire_model.specs.Transcript.{answer_text};
-ghost use Rattle.request_loop.specs.Exchanging.{Exchanges, Responds, stopped_by};
+ghost use Rattle.request_loop.specs.Exchanging.{Exchanges, Responds, Writes, stopped_by};
 
 use crate::answerer::Answerer;
 use crate::connection_end::ConnectionEnd;
-use api_routes::{Answer, to_response};
+use api_routes::{Answer, memory_text, to_response};
 use http_wire::{Request, write_response};
 use outside_world::{Clock, Sink, write_all};
 use site_ids::{Bytes, Moment, NoMemory};
@@ -66,7 +66,8 @@ pub fn exchange<A: Answerer, K: Sink, C: Clock>(
     respond(alloc, &answer, last, sink)
 }
 
-/// Writes the response to an answer; `last` if the connection then ends.
+/// Writes the response to an answer; `last` if the connection then ends. That of `Answer::Memory` is
+/// a constant text, and takes no memory.
 pub fn respond<K: Sink>(
     alloc: Global,
     answer: &Answer,
@@ -77,11 +78,23 @@ pub fn respond<K: Sink>(
     ensures later { K.faults sink.old ≤ K.faults sink.new }
     ensures failed { IsErrOf result Interrupted.InWriting → Rose (K.faults sink.old) (K.faults sink.new) }
 {
+    if let Answer::Memory = answer {
+        return write_text(memory_text(last), sink);
+    }
     let text = match answer_response(alloc, answer, last) {
         Ok(text) => text,
         Err(_) => return Err(Interrupted::BeforeWriting),
     };
-    match write_all(sink, text.as_slice()) {
+    write_text(text.as_slice(), sink)
+}
+
+/// Writes the text of a response.
+fn write_text<K: Sink>(text: &[u8], sink: &mut K) -> Result<(), Interrupted>
+    ensures written { Writes text.now (K.taken sink.old) (K.taken sink.new) result }
+    ensures later { K.faults sink.old ≤ K.faults sink.new }
+    ensures failed { IsErrOf result Interrupted.InWriting → Rose (K.faults sink.old) (K.faults sink.new) }
+{
+    match write_all(sink, text) {
         Ok(()) => Ok(()),
         Err(_) => Err(Interrupted::InWriting),
     }

@@ -1,5 +1,6 @@
 //! That no answer waits for more input: a reader that fails if it is read before the last answer was
 //! written.
+use disk_model::MemoryDisk;
 use outside_world::{MemoryClock, StreamSink, StreamSource};
 use pagetree_session::{Status, Words, run_command};
 use std::cell::Cell;
@@ -66,8 +67,9 @@ fn each_answer_is_written_before_the_next_read(rt: HostRuntime) -> Result<(), Fa
     let mut clock = MemoryClock { next: 0, step: 0 };
     let mut words = Words::new(rt.alloc());
     words.push("session")?;
-    let end = run_command(rt.alloc(), &words, &mut source, &mut sink, &mut clock);
-    assert_eq!(rt; end, Status::Done);
+    let disk = MemoryDisk::new(rt.alloc(), 100, 10, &[])?;
+    let end = run_command(rt.alloc(), &words, &mut source, &mut sink, disk, &mut clock);
+    assert_eq!(rt; end.status, Status::Done);
     assert_eq!(rt; written.get(), TURNS * ANSWER_LENGTH);
     Ok(())
 }

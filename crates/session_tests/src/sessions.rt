@@ -1,4 +1,5 @@
 //! Sessions whose input comes in pieces, and whose reads and writes fail.
+use disk_model::MemoryDisk;
 use outside_world::{MemoryClock, MemorySink, PiecesSource};
 use pagetree_session::{Options, Status, Words, run_command};
 use std::alloc::Global;
@@ -39,8 +40,9 @@ fn expect_end(
     let mut words = Words::new(alloc);
     words.push("session")?;
     let mut clock = MemoryClock { next: 0, step: 0 };
-    let end = run_command(alloc, &words, &mut source, &mut sink, &mut clock);
-    assert_eq!(rt; end, status, "in pieces of {piece}");
+    let disk = MemoryDisk::new(alloc, 1_000, 100, &[])?;
+    let end = run_command(alloc, &words, &mut source, &mut sink, disk, &mut clock);
+    assert_eq!(rt; end.status, status, "in pieces of {piece}");
     assert!(rt; sink.bytes().starts_with(CREATED), "in pieces of {piece}");
     assert_eq!(rt; sink.bytes().len(), CREATED.len().saturating_add(more));
     Ok(())

@@ -30,7 +30,7 @@ use Rattle.site_store.specs.Faults.{open_fault}
 use Rattle.site_store.specs.History.{SiteHistory}
 use Rattle.site_store.specs.Recovery.{Stage, Recovers, end_of, IsKept}
 use Rattle.site_store.specs.Standing.{IsAt}
-use Rattle.site_store.specs.Opening.{start, HasRecovered, BeginsAt, IsOpened, KeepsFiles, TellsFault, IsBadAt}
+use Rattle.site_store.specs.Opening.{start, HasRecovered, BeginsAt, EndsAfter, BeginsWith, IsOpened, KeepsFiles, TellsFault, IsBadAt}
 use Rattle.site_store.proofs.ReplayLemmas.{HasRecovered-under}
 
 -- the world of a new site is reached
@@ -76,6 +76,18 @@ recovers_begins k from at [] recovers =
     ))
 recovers_begins k from at (byte ∷ bytes) recovers = recovers
 
+-- a file that ends after some bytes is not empty
+ends_begins : (k number : ℕ) (bytes : List ℕ) (size : ℕ) → EndsAfter k number bytes size
+    → BeginsWith k number bytes size
+ends_begins k number [] size ends =
+    let payloads = ends.are.payloads in
+    absurd (omega (
+      arith,
+      ap length payloads.is,
+      length-append (front k (entries_of.forms ends.entries)) (payloads.gate ∷ payloads.rest),
+    ))
+ends_begins k number (byte ∷ bytes) size ends = ends
+
 -- a journal that was created
 pub created_opened : (honest : Type 0) (bytes : List ℕ) (core : Core) (log : EntryLog)
     (sizes : ℕ → ℕ) (past : Past) → (honest → bytes ≡ []) → cores.StandsFor core start.world
@@ -100,6 +112,9 @@ created_opened honest bytes core log sizes past empty stands is keeps size =
           (λ l. BeginsAt 1 start l (let s : Stage = record { world = start.world; number = log.number }
           in s)) (sym (empty is_honest))
           (ap (λ n. let s : Stage = record { world = start.world; number = n } in s) number);
+      journal = λ is_honest.
+          subst (λ l. BeginsWith 1 start.number l (log.journal.gate + 1)) (sym (empty is_honest))
+          (omega (arith, gate));
       kept = λ is_honest. record {
         entries = [];
         keeps = subst (λ n. Keeps log past n [] None) (sym start_number) (keeps is_honest);
@@ -134,6 +149,16 @@ recovered_opened honest past new_past scan core sizes k recovered same reaches =
         leads = recovered.leads;
         number = recovered.number sure.0;
       });
+  journal = λ sure.
+      ends_begins 1 start.number (seen past (journal_file scan.scan.k)) (scan.scan.gate + 1)
+      (record {
+        entries = recovered.entries;
+        are = subst
+            (λ n. entries_of.RecoversTo n start.number recovered.entries
+            (seen past (journal_file scan.scan.k))) k (recovered.are sure.0);
+        size_is = ap (λ n. n + 1) (recovered.gate sure.0
+            ∙ ap (λ n. length (front n (entries_of.forms recovered.entries))) k);
+      });
   kept = λ sure. subst
       (λ (p : Past). IsKept (log_of scan) p start
       (history_at recovered.world scan.number (log_in (log_of scan))) None) (sym (same sure.0))
@@ -159,6 +184,9 @@ IsOpened-under sure other bytes others core log sizes past under same opened = r
   at = opened.at;
   begins = λ is. subst (λ l. BeginsAt 1 start l (end_of opened.history)) (same is)
       (opened.begins (under is));
+  journal = λ is.
+      subst (λ l. BeginsWith 1 start.number l opened.history.start.log.journal) (same is)
+      (opened.journal (under is));
   kept = λ is. opened.kept (under is);
 }
 

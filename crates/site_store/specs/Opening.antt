@@ -12,6 +12,7 @@ use Rattle.site_core.specs.Standing as cores
 use Rattle.site_core.specs.declared.state.Core.{Core}
 use Rattle.journal.specs.Form.{front, Fits}
 use Rattle.journal.specs.Scan.{HasHeader}
+use Rattle.journal.specs.declared.form.TheConstants.{HEADER_SIZE}
 use Rattle.journal.specs.declared.fault.ScanFault.{ScanFault}
 use Rattle.journal.specs.declared.fault.ScanFault.TheVariants.{Bad, Failed, Memory}
 use Rattle.entry_log.specs.declared.log.EntryLog.{EntryLog}
@@ -103,9 +104,22 @@ abbrev pub BeginsAt : ℕ → Stage → List ℕ → Stage → Type 0
 BeginsAt k from [] at = at ≡ from
 BeginsAt k from (byte ∷ bytes) at = Recovers k from at (byte ∷ bytes)
 
+-- Up to its first gate that is not open, that gate included, a journal's file has so many bytes: the
+-- header, the records of the entries that it recovers to, and the gate.
+pub record EndsAfter (k number : ℕ) (bytes : List ℕ) (size : ℕ) : Type 0 where
+  pub entries : List Entry
+  pub are : entries_of.RecoversTo k number entries bytes
+  pub size_is : size ≡ length (front k (entries_of.forms entries)) + 1
+
+-- a store's journal begins with so many bytes: those of a journal without entries if its file is
+-- empty, and else the file's up to its first gate that is not open, that gate included
+abbrev pub BeginsWith : ℕ → ℕ → List ℕ → ℕ → Type 0
+BeginsWith k number [] size = size ≡ HEADER_SIZE
+BeginsWith k number (byte ∷ bytes) size = EndsAfter k number (byte ∷ bytes) size
+
 -- A store was opened on files of which that of journal 1 had these bytes: it is at a history with no
 -- items yet, and with nothing written to its log, which on an honest disk begins where the file
--- says, and is kept there.
+-- says, with as many bytes as the journal has there, and is kept there.
 pub record IsOpened (honest : Type 0) (bytes : List ℕ) (core : Core) (log : EntryLog)
     (sizes : ℕ → ℕ) (past : Past) : Type 0 where
   pub history : SiteHistory
@@ -115,6 +129,7 @@ pub record IsOpened (honest : Type 0) (bytes : List ℕ) (core : Core) (log : En
   pub k : log.journal.k ≡ 1
   pub at : IsAt core log sizes history
   pub begins : honest → BeginsAt 1 start bytes (end_of history)
+  pub journal : honest → BeginsWith 1 start.number bytes history.start.log.journal
   pub kept : honest → IsKept log past start history None
 
 -- every file reads as it did, and a crash leaves nothing new of it

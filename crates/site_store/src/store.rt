@@ -94,6 +94,8 @@ impl<D: Disk> Store<D> {
             → (self.new.disk ≡ self.old.disk) × (self.new.log ≡ self.old.log) }
         ensures memory { IsErrOf result faults.Memory
             → (self.new.disk ≡ self.old.disk) × (self.new.log ≡ self.old.log) }
+        ensures no_fault { OnOk result
+            (D.fault_count self.new.disk ≡ D.fault_count self.old.disk) }
     {
         match self.core.prepare(alloc, &command, caller, now) {
             Err(fault) => Err(fault.into()),
@@ -148,6 +150,8 @@ impl<D: Disk> Store<D> {
         ensures failed { OnErr result (IsErrOf result (faults.Disk
             (D.fault_count self.old.disk) (D.fault_count self.new.disk))
             × Rose (D.fault_count self.old.disk) (D.fault_count self.new.disk)) }
+        ensures no_fault { OnOk result
+            (D.fault_count self.new.disk ≡ D.fault_count self.old.disk) }
         ensures ok { (base : ℕ) (entries : List AnyEntry) (doubt : Option AnyEntry)
             → D.is_honest self.old.disk
             → Keeps self.old.log (D.past self.old.disk) base entries doubt

@@ -2,12 +2,13 @@
 -- request can ask for.
 use Rattle.std.proofs.Common.{◌≡◌, ℕ, Bool, true, false, cond, List, [], ◌∷◌, length, codes, Option, Some, None, Result, Ok, subst}
 use Rattle.std.specs.Prelude.{IfSome, option_map, option_and_then}
+use Rattle.std.specs.List.{AllByRecursion}
 use Rattle.serde_json.specs.Data.{Data}
 use Rattle.serde_json.specs.Find.{get}
 use Rattle.site_ids.specs.Moment.{IsMoment}
 use Rattle.site_ids.specs.Slug.{IsSlug}
 use Rattle.site_ids.specs.declared.digest.TheConstants.{DIGEST_BYTES}
-use Rattle.site_ids.specs.declared.ids.TheConstants.{LAST_TASK_ID}
+use Rattle.site_ids.specs.declared.ids.TheConstants.{LAST_GROUP_ID, LAST_TASK_ID}
 use Rattle.site_model.specs.Laws.{FitsList}
 use Rattle.site_model.specs.Sound.{NumbersRise}
 use Rattle.site_types.specs.Content.{ContentValue, FitsLimits}
@@ -33,7 +34,7 @@ use Rattle.wire_model.specs.Times.{time_at}
 use Rattle.wire_model.specs.Routes.{Route, command_routes, read_routes, command_route, read_route, has_part_after, after_front, read_at, command_at, is_api, beside, id_written, closed_path, or_fault, by_post, by_get, read_call, call_on, route_of, call_of}
 use Rattle.wire_model.specs.Routes as routes
 use Rattle.wire_model.proofs.TimeLemmas.{AreTimes, member_time}
-use Rattle.wire_model.proofs.ReadLemmas.{AreSlugs, AreDigests, AreGroups, member_slug, member_content, read_digest, member_ids, read_groups}
+use Rattle.wire_model.proofs.ReadLemmas.{AreSlugs, AreDigests, IsUpTo, AreIds, AreGroups, member_slug, member_content, read_digest, member_ids, read_groups}
 
 -- a command, if there is one, is one of these
 abbrev pub AreSuch : (Command → Type 0) → Option Command → Type 0
@@ -46,7 +47,7 @@ AsksSuch Such _ = Unit {0}
 
 -- What is to be shown of a fact of commands: that it holds of each kind of command that a body can
 -- ask for. Its slug, its content, its moments and its digest fit, its groups rise, and of groups and
--- tasks it has 1 to 16.
+-- tasks it has 1 to 16, with ids in their range.
 pub record HoldsOfForms (Such : Command → Type 0) : Type 0 where
   pub creation : (parent : ℕ) (slug : List ℕ) (content : ContentValue) → IsSlug slug →
       FitsLimits content → Such (Create parent slug content)
@@ -68,8 +69,10 @@ pub record HoldsOfForms (Such : Command → Type 0) : Type 0 where
   pub granting : (group page : ℕ) (permission : Permission) (on : Bool) →
       Such (Grant group page permission on)
   pub ticking : Such Tick
-  pub task : (groups : List ℕ) → FitsList groups → NumbersRise 0 groups → Such (DefineTask groups)
-  pub workflow : (tasks : List ℕ) → FitsList tasks → Such (DefineWorkflow tasks)
+  pub task : (groups : List ℕ) → FitsList groups → NumbersRise 0 groups →
+      AllByRecursion (IsUpTo LAST_GROUP_ID) groups → Such (DefineTask groups)
+  pub workflow : (tasks : List ℕ) → FitsList tasks → AllByRecursion (IsUpTo LAST_TASK_ID) tasks →
+      Such (DefineWorkflow tasks)
   pub assigning : (page : ℕ) (workflow : Option ℕ) → Such (Assign page workflow)
 
 -- what is asked for only where a test holds is one of these
@@ -171,14 +174,14 @@ module _ (Such : Command → Type 0) (hold : HoldsOfForms Such) where
   -- so is the definition of a task
   task_is : (groups : Option (List ℕ)) → AreGroups groups →
       AreSuch Such (option_map DefineTask groups)
-  task_is (Some groups) are = hold.task groups are.0 are.1
+  task_is (Some groups) are = hold.task groups are.0 are.1 are.2
   task_is None are = tt
 
   -- so is the definition of a workflow
-  workflow_is : (tasks : Option (List ℕ)) → IfSome tasks FitsList →
+  workflow_is : (tasks : Option (List ℕ)) → AreIds LAST_TASK_ID tasks →
       AreSuch Such (option_map DefineWorkflow tasks)
-  workflow_is (Some tasks) fits = hold.workflow tasks fits
-  workflow_is None fits = tt
+  workflow_is (Some tasks) are = hold.workflow tasks are.0 are.1
+  workflow_is None are = tt
 
   -- so is an assignment
   assignment_is : (page : Option ℕ) (workflow : Option (Option ℕ)) →

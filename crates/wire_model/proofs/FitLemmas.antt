@@ -45,8 +45,8 @@ all_fit = record {
   membership = λ user group on. tt;
   granting = λ group page permission on. tt;
   ticking = tt;
-  task = λ groups fits rise. (fits, rise);
-  workflow = λ tasks fits. fits;
+  task = λ groups fits rise ids. (fits, rise);
+  workflow = λ tasks fits ids. fits;
   assigning = λ page workflow. tt;
 }
 

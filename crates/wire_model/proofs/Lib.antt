@@ -4,3 +4,4 @@ pub mod ReadLemmas
 pub mod AskedLemmas
 pub mod RoutedLemmas
 pub mod FitLemmas
+pub mod FormLemmas

@@ -1,5 +1,5 @@
 -- What is read from a body fits: a slug is by the rule of slugs, a content within its limits, a
--- digest has its bytes, groups rise, and there are 1 to 16 of groups and tasks.
+-- digest has its bytes, groups rise, and of groups and tasks there are 1 to 16 ids in their range.
 use Rattle.std.proofs.Common.{◌≡◌, ◌≤◌, ◌<◌, ◌&&◌, ◌==◌, ◌+◌, ◌*◌, ℕ, suc, Bool, true, false, cond, nat_le, nat_lt, List, [], ◌∷◌, length, Option, Some, None, refl, ap, subst, arith}
 use Rattle.std.specs.Prelude.{IfSome, option_map, option_and_then}
 use Rattle.std.specs.Bool.{then_some}
@@ -108,48 +108,53 @@ pub read_digest : (text : Option (List ℕ)) → AreDigests (option_and_then dig
 read_digest (Some text) = tested_digest (length text == 2 * DIGEST_BYTES) text refl
 read_digest None = tt
 
--- ids that a value is read as, none of which is 0
-abbrev AreIds : Option (List ℕ) → Type 0
-AreIds ids = IfSome ids (λ list. FitsList list × AllByRecursion (λ id. 1 ≤ id) list)
+-- an id from 1 to the last one of its kind
+abbrev pub IsUpTo : ℕ → ℕ → Type 0
+IsUpTo last id = (1 ≤ id) × (id ≤ last)
 
--- a number that is kept within a range is not below its low end
+-- ids, if there are any: 1 to 16, each from 1 to the last one of its kind
+abbrev pub AreIds : ℕ → Option (List ℕ) → Type 0
+AreIds last ids = IfSome ids (λ list. FitsList list × AllByRecursion (IsUpTo last) list)
+
+-- a number that is kept within a range is within it
 kept_within : (high : ℕ) (number : Option ℕ) →
-    IfSome (option_and_then (λ n. then_some (is_within 1 high n) n) number) (λ n. 1 ≤ n)
+    IfSome (option_and_then (λ n. then_some (is_within 1 high n) n) number) (IsUpTo high)
 kept_within high None = tt
 kept_within high (Some number) = tested (is_within 1 high number) refl
   where
     tested : (test : Bool) → is_within 1 high number ≡ test →
-        IfSome (then_some test number) (λ n. 1 ≤ n)
+        IfSome (then_some test number) (IsUpTo high)
     tested true is =
-        let low = (both_hold (nat_le 1 number) (nat_le number high) is).0 in
-        grind (arith, nat_tests, low)
+        let both = both_hold (nat_le 1 number) (nat_le number high) is in
+        (grind (arith, nat_tests, both.0), grind (arith, nat_tests, both.1))
     tested false is = tt
 
--- one more number before numbers of which none is 0
-first_read : (first : Option ℕ) (rest : Option (List ℕ)) → IfSome first (λ n. 1 ≤ n) →
-    IfSome rest (AllByRecursion (λ id. 1 ≤ id)) →
+-- one more id before others that are up to the last
+first_read : (last : ℕ) (first : Option ℕ) (rest : Option (List ℕ)) → IfSome first (IsUpTo last) →
+    IfSome rest (AllByRecursion (IsUpTo last)) →
     IfSome (option_and_then (λ found. option_map (λ more. found ∷ more) rest) first)
-    (AllByRecursion (λ id. 1 ≤ id))
-first_read (Some first) (Some rest) low lows = (low, lows)
-first_read (Some first) None low lows = tt
-first_read None rest low lows = tt
+    (AllByRecursion (IsUpTo last))
+first_read last (Some first) (Some rest) one more = (one, more)
+first_read last (Some first) None one more = tt
+first_read last None rest one more = tt
 
--- none of the ids that items are read as is 0
+-- each of the ids that items are read as is up to the last
 each_id : (last : ℕ) (items : Items) →
-    IfSome (each_of (whole_within 1 last) items) (AllByRecursion (λ id. 1 ≤ id))
+    IfSome (each_of (whole_within 1 last) items) (AllByRecursion (IsUpTo last))
 each_id last no_items = tt
 each_id last (item first items) =
-    first_read (whole_within 1 last first) (each_of (whole_within 1 last) items)
+    first_read last (whole_within 1 last first) (each_of (whole_within 1 last) items)
     (kept_within last (whole_of first)) (each_id last items)
 
--- ids of which none is 0 and that are kept if there are 1 to 16 are such ids
-kept_ids : (ids : Option (List ℕ)) → IfSome ids (AllByRecursion (λ id. 1 ≤ id)) →
-    AreIds (option_and_then (λ list. then_some (is_within 1 MAX_NAMED_IDS (length list)) list) ids)
-kept_ids None lows = tt
-kept_ids (Some ids) lows = tested (is_within 1 MAX_NAMED_IDS (length ids)) refl
+-- ids up to the last that are kept if there are 1 to 16 are such ids
+kept_ids : (last : ℕ) (ids : Option (List ℕ)) → IfSome ids (AllByRecursion (IsUpTo last)) →
+    AreIds last
+    (option_and_then (λ list. then_some (is_within 1 MAX_NAMED_IDS (length list)) list) ids)
+kept_ids last None each = tt
+kept_ids last (Some ids) each = tested (is_within 1 MAX_NAMED_IDS (length ids)) refl
   where
     tested : (test : Bool) → is_within 1 MAX_NAMED_IDS (length ids) ≡ test →
-        AreIds (then_some test ids)
+        AreIds last (then_some test ids)
     tested true is =
         let sizes =
         both_hold (nat_le 1 (length ids)) (nat_le (length ids) MAX_NAMED_IDS) is
@@ -158,35 +163,29 @@ kept_ids (Some ids) lows = tested (is_within 1 MAX_NAMED_IDS (length ids)) refl
             not_empty = grind (arith, nat_tests, sizes.0);
             fits = grind (arith, nat_tests, sizes.1);
           },
-          lows,
+          each,
         )
     tested false is = tt
 
 -- ids that a list is read as
 listed_ids : (last : ℕ) (list : Option Items) →
-    AreIds (option_and_then (λ ids. then_some (is_within 1 MAX_NAMED_IDS (length ids)) ids)
+    AreIds last (option_and_then (λ ids. then_some (is_within 1 MAX_NAMED_IDS (length ids)) ids)
     (option_and_then (each_of (whole_within 1 last)) list))
 listed_ids last (Some list) =
-    kept_ids (each_of (whole_within 1 last) list) (each_id last list)
+    kept_ids last (each_of (whole_within 1 last) list) (each_id last list)
 listed_ids last None = tt
 
 -- ids that a member is read as
-found_ids : (last : ℕ) (found : Option Data) → AreIds (option_and_then (ids_of last) found)
-found_ids last (Some value) = listed_ids last (as_array value)
-found_ids last None = tt
-
--- ids that a member is read as are 1 to 16
 pub member_ids : (last : ℕ) (found : Option Data) →
-    IfSome (option_and_then (ids_of last) found) FitsList
-member_ids last found = fitting (option_and_then (ids_of last) found) (found_ids last found)
-  where
-    fitting : (ids : Option (List ℕ)) → AreIds ids → IfSome ids FitsList
-    fitting (Some ids) are = are.0
-    fitting None are = tt
+    AreIds last (option_and_then (ids_of last) found)
+member_ids last (Some value) = listed_ids last (as_array value)
+member_ids last None = tt
 
 -- groups, if there are any: 1 to 16 that rise
 abbrev pub AreGroups : Option (List ℕ) → Type 0
-AreGroups groups = IfSome groups (λ list. FitsList list × NumbersRise 0 list)
+AreGroups groups =
+    IfSome groups
+    (λ list. FitsList list × NumbersRise 0 list × AllByRecursion (IsUpTo LAST_GROUP_ID) list)
 
 -- ids after a number that rise, one more than there were
 abbrev RiseBy : ℕ → ℕ → Option (List ℕ) → Type 0
@@ -218,12 +217,13 @@ placed_rise before id (first ∷ ids) above rise =
         (later (grind (arith, nat_tests, less, is)))
 
 -- ids that rise, with others put in, still rise
-gathered_rise : (kept ids : List ℕ) → NumbersRise 0 kept → AllByRecursion (λ id. 1 ≤ id) ids →
+gathered_rise : (last : ℕ) (kept ids : List ℕ) → NumbersRise 0 kept →
+    AllByRecursion (IsUpTo last) ids →
     RiseBy 0 (length kept + length ids) (gathered kept ids)
-gathered_rise kept [] rise lows = (rise, omega arith)
-gathered_rise kept (id ∷ ids) rise lows =
-    by (placed id kept) (placed_rise 0 id kept lows.0 rise)
-    (λ (more : List ℕ) (rises : NumbersRise 0 more). gathered_rise more ids rises lows.1)
+gathered_rise last kept [] rise each = (rise, omega arith)
+gathered_rise last kept (id ∷ ids) rise each =
+    by (placed id kept) (placed_rise 0 id kept each.0.0 rise)
+    (λ (more : List ℕ) (rises : NumbersRise 0 more). gathered_rise last more ids rises each.1)
   where
     sized : (size other : ℕ) (more : Option (List ℕ)) → size ≡ other → RiseBy 0 size more →
         RiseBy 0 other more
@@ -239,24 +239,59 @@ gathered_rise kept (id ∷ ids) rise lows =
         (omega (arith, rises.1)) (later more rises.0)
     by None rises later = tt
 
+-- what holds of each id, and of one more, holds of each with that at its place
+placed_each : (P : ℕ → Type 0) (id : ℕ) (ids : List ℕ) → P id → AllByRecursion P ids →
+    IfSome (placed id ids) (AllByRecursion P)
+placed_each P id [] one each = (one, tt)
+placed_each P id (first ∷ ids) one each =
+    by (nat_lt id first) (id == first) (placed id ids) (placed_each P id ids one each.1)
+  where
+    by : (less same : Bool) (more : Option (List ℕ)) → IfSome more (AllByRecursion P) →
+        IfSome (cond less (Some (id ∷ first ∷ ids))
+        (cond same None (option_map (λ rest. first ∷ rest) more))) (AllByRecursion P)
+    by true same more rest = (one, each)
+    by false true more rest = tt
+    by false false (Some more) rest = (each.0, rest)
+    by false false None rest = tt
+
+-- so it does with others put in
+gathered_each : (P : ℕ → Type 0) (kept ids : List ℕ) → AllByRecursion P kept →
+    AllByRecursion P ids → IfSome (gathered kept ids) (AllByRecursion P)
+gathered_each P kept [] each more = each
+gathered_each P kept (id ∷ ids) each more =
+    by (placed id kept) (placed_each P id kept more.0 each)
+    (λ (list : List ℕ) (holds : AllByRecursion P list). gathered_each P list ids holds more.1)
+  where
+    by : (one_more : Option (List ℕ)) → IfSome one_more (AllByRecursion P) →
+        ((list : List ℕ) → AllByRecursion P list →
+        IfSome (gathered list ids) (AllByRecursion P)) →
+        IfSome (option_and_then (λ list. gathered list ids) one_more) (AllByRecursion P)
+    by (Some list) holds later = later list holds
+    by None holds later = tt
+
 -- groups that a list of ids is gathered to
-gathered_groups : (ids : Option (List ℕ)) → AreIds ids →
+gathered_groups : (ids : Option (List ℕ)) → AreIds LAST_GROUP_ID ids →
     AreGroups (option_and_then (gathered []) ids)
 gathered_groups None are = tt
-gathered_groups (Some ids) are = by (gathered [] ids) (gathered_rise [] ids tt are.1)
+gathered_groups (Some ids) are =
+    by (gathered [] ids) (gathered_rise LAST_GROUP_ID [] ids tt are.1)
+    (gathered_each (IsUpTo LAST_GROUP_ID) [] ids tt are.1)
   where
-    by : (groups : Option (List ℕ)) → RiseBy 0 (0 + length ids) groups → AreGroups groups
-    by (Some groups) rises = (
+    by : (groups : Option (List ℕ)) → RiseBy 0 (0 + length ids) groups →
+        IfSome groups (AllByRecursion (IsUpTo LAST_GROUP_ID)) → AreGroups groups
+    by (Some groups) rises each = (
       record {
         not_empty = omega (arith, rises.1, are.0.not_empty);
         fits = omega (arith, rises.1, are.0.fits);
       },
       rises.0,
+      each,
     )
-    by None rises = tt
+    by None rises each = tt
 
 -- groups that a member is read as are 1 to 16 and rise
 pub read_groups : (found : Option Data) →
     AreGroups (option_and_then (gathered []) (option_and_then (ids_of LAST_GROUP_ID) found))
 read_groups found =
-    gathered_groups (option_and_then (ids_of LAST_GROUP_ID) found) (found_ids LAST_GROUP_ID found)
+    gathered_groups (option_and_then (ids_of LAST_GROUP_ID) found)
+    (member_ids LAST_GROUP_ID found)

@@ -22,7 +22,7 @@ use Rattle.sight_model.specs.Cards.{card_of, answer_of}
 use Rattle.sight_model.specs.References.{refs_shown}
 use Rattle.wire_model.specs.Routes.{call_of}
 use Rattle.wire_model.specs.Exchange.{Past, IsLegal, decider, tally_of, user_of, entry_of, Outcome, decided, run, card_told, refs_told, desk_told, public_told, called, called_by, called_with, asked, exchange}
-use Rattle.wire_model.specs.Transcript.{Told, outcome, after_told, EndsWhereClosing, Follows, closes, HasMoments}
+use Rattle.wire_model.specs.Transcript.{Told, outcome, after_told, Gets, IsDecided, IsPlain, ArePlain, EndsWhereClosing, Follows, closes, HasMoments}
 use Rattle.wire_model.specs.Laws.{AsksNothing}
 
 -- what is added may stand after a history
@@ -124,12 +124,24 @@ told_legal past told legal =
           (exchange_legal (tally_of past) told.request told.moment);
     }
 
+-- whatever a request gets, it leaves a legal history legal
+gets_legal : (past next : Past) (before after : ℕ) (told : Told) → IsLegal past →
+    Gets past before told next after → IsLegal next
+gets_legal past next before after told legal (inl decided) =
+    subst IsLegal (sym decided.1) (told_legal past told legal)
+gets_legal past next before after told legal (inr (inl fault)) =
+    subst IsLegal (sym fault.3) legal
+gets_legal past next before after told legal (inr (inr lacks)) =
+    subst IsLegal (sym lacks.2) legal
+
 -- a transcript from a legal history on leaves a legal one
-pub transcript_keeps_legal : (past after : Past) (bytes rest : List ℕ) (told : List Told) →
-    IsLegal past → Follows past bytes told after rest → IsLegal after
-transcript_keeps_legal past after bytes rest [] legal h = rw (h.0) legal
-transcript_keeps_legal past after bytes rest (x ∷ told) legal h =
-    transcript_keeps_legal (after_told past x) after h.0 rest told (told_legal past x legal) h.4
+pub transcript_keeps_legal : (past after : Past) (count later : ℕ) (bytes rest : List ℕ)
+    (told : List Told) → IsLegal past → Follows past count bytes told after later rest →
+    IsLegal after
+transcript_keeps_legal past after count later bytes rest [] legal h = rw (h.0) legal
+transcript_keeps_legal past after count later bytes rest (x ∷ told) legal h =
+    transcript_keeps_legal h.1 after h.2 later h.0 rest told
+    (gets_legal past h.1 count h.2 x legal h.4) h.6
 
 -- a whole request stays so when more bytes follow
 whole_stays : (bytes more rest : List ℕ) (request : Request) → IsFront bytes (whole request rest) →
@@ -137,15 +149,19 @@ whole_stays : (bytes more rest : List ℕ) (request : Request) → IsFront bytes
 whole_stays bytes more rest request is = final_stays bytes more (whole request rest) tt is
 
 -- a transcript stays one when more bytes follow
-pub transcript_stays : (past after : Past) (bytes rest more : List ℕ) (told : List Told) →
-    Follows past bytes told after rest → Follows past (bytes ++ more) told after (rest ++ more)
-transcript_stays past after bytes rest more [] h = (h.0, ap (λ (bs : List ℕ). bs ++ more) h.1)
-transcript_stays past after bytes rest more (x ∷ told) h = (
+pub transcript_stays : (past after : Past) (count later : ℕ) (bytes rest more : List ℕ)
+    (told : List Told) → Follows past count bytes told after later rest →
+    Follows past count (bytes ++ more) told after later (rest ++ more)
+transcript_stays past after count later bytes rest more [] h =
+    (h.0, h.1, ap (λ (bs : List ℕ). bs ++ more) h.2)
+transcript_stays past after count later bytes rest more (x ∷ told) h = (
   h.0 ++ more,
-  whole_stays bytes more h.0 x.request h.1,
+  h.1,
   h.2,
-  h.3,
-  transcript_stays (after_told past x) after h.0 rest more told h.4,
+  whole_stays bytes more h.0 x.request h.3,
+  h.4,
+  h.5,
+  transcript_stays h.1 after h.2 later h.0 rest more told h.6,
 )
 
 -- two moments that a clock gives at one place are one
@@ -173,69 +189,92 @@ one_told past x y same at_once is other_is =
     (λ i. (same i, at_once i)) ∙ sym other_is) in
     λ i. record { request = same i; moment = at_once i; answer = answers i }
 
+-- an answer that tells neither of a fault nor of want of memory is decided by the history
+plain_is_decided : (past next : Past) (before after : ℕ) (told : Told) → IsPlain told.answer →
+    Gets past before told next after → IsDecided past before told next after
+plain_is_decided past next before after told plain (inl decided) = decided
+plain_is_decided past next before after told plain (inr (inl fault)) =
+    absurd (subst IsPlain fault.1 plain)
+plain_is_decided past next before after told plain (inr (inr lacks)) =
+    absurd (subst IsPlain lacks.1 plain)
+
 -- of two transcripts the longer begins with the shorter, and goes on from where that ended
 pub longer_begins_with_shorter : (coming : ℕ → Option ℕ) (place : ℕ) (past after later : Past)
-    (bytes rest left : List ℕ) (told other : List Told) →
+    (count first second : ℕ) (bytes rest left : List ℕ) (told other : List Told) →
+    ArePlain told → ArePlain other →
     ((k : ℕ) → IsSome (coming k)) → HasMoments coming place told → HasMoments coming place other →
-    Follows past bytes told after rest → Follows past bytes other later left →
+    Follows past count bytes told after first rest →
+    Follows past count bytes other later second left →
     length told ≤ length other →
-    (more : List Told) × (other ≡ told ++ more) × Follows after rest more later left
-longer_begins_with_shorter coming place past after later bytes rest left [] other tells m n h k le =
-    (other, refl, rw (h.0, h.1) k)
-longer_begins_with_shorter coming place past after later bytes rest left (x ∷ told) [] tells m n h k
-    le = absurd (omega arith)
-longer_begins_with_shorter coming place past after later bytes rest left (x ∷ told) (y ∷ other)
-    tells m n h k le =
-    let same = one_whole bytes h.0 k.0 x.request y.request h.1 k.1 in
+    (more : List Told) × (other ≡ told ++ more) × Follows after first rest more later second left
+longer_begins_with_shorter coming place past after later count first second bytes rest left [] other
+    p q tells m n h k le = (other, refl, rw (h.0, h.1, h.2) k)
+longer_begins_with_shorter coming place past after later count first second bytes rest left
+    (x ∷ told) [] p q tells m n h k le = absurd (omega arith)
+longer_begins_with_shorter coming place past after later count first second bytes rest left
+    (x ∷ told) (y ∷ other) p q tells m n h k le =
+    let is = plain_is_decided past h.1 count h.2 x p.0 h.4 in
+    let other_is = plain_is_decided past k.1 count k.2 y q.0 k.4 in
+    let same = one_whole bytes h.0 k.0 x.request y.request h.3 k.3 in
     let at_once = one_moment (coming place) x.moment y.moment (tells place) m.0 n.0 in
-    let alike : x ≡ y = one_told past x y same.0 at_once h.2 k.2 in
-    let onward = subst (λ (p : Told × List ℕ). Follows (after_told past p.0) p.1 other later left)
-    (λ i. (sym alike i, sym same.1 i)) k.4 in
-    let rest_of = longer_begins_with_shorter coming (place + 1) (after_told past x) after later h.0
-    rest left told other tells m.1 n.1 h.4 onward (omega arith) in
+    let alike : x ≡ y = one_told past x y same.0 at_once is.0 other_is.0 in
+    let pasts : k.1 ≡ h.1 = other_is.1 ∙ (ap (after_told past) (sym alike) ∙ sym is.1) in
+    let counts : k.2 ≡ h.2 = other_is.2 ∙ sym is.2 in
+    let onward = subst (λ (t : Past × ℕ × List ℕ). Follows t.0 t.1 t.2 other later second left)
+    (λ i. (pasts i, counts i, sym same.1 i)) k.6 in
+    let rest_of = longer_begins_with_shorter coming (place + 1) h.1 after later h.2 first second h.0
+    rest left told other p.1 q.1 tells m.1 n.1 h.6 onward (omega arith) in
     (rest_of.0, (λ i. sym alike i ∷ rest_of.1 i), rest_of.2)
 
 -- no transcript goes on where as many requests are told
-ends_alike : (after later : Past) (rest left : List ℕ) (told other more : List Told) →
-    length told ≡ length other → other ≡ told ++ more → Follows after rest more later left →
-    (told ≡ other) × (after ≡ later) × (rest ≡ left)
-ends_alike after later rest left told other [] e is f =
-    (sym (is ∙ append-nil told), sym f.0, sym f.1)
-ends_alike after later rest left told other (x ∷ more) e is f =
+ends_alike : (after later : Past) (first second : ℕ) (rest left : List ℕ)
+    (told other more : List Told) → length told ≡ length other → other ≡ told ++ more →
+    Follows after first rest more later second left →
+    (told ≡ other) × (after ≡ later) × (first ≡ second) × (rest ≡ left)
+ends_alike after later first second rest left told other [] e is f =
+    (sym (is ∙ append-nil told), sym f.0, sym f.1, sym f.2)
+ends_alike after later first second rest left told other (x ∷ more) e is f =
     absurd (omega (arith, ap length is, length-append told (x ∷ more)))
 
 -- there is one transcript of so many requests
 pub one_transcript : (coming : ℕ → Option ℕ) (place : ℕ) (past after later : Past)
-    (bytes rest left : List ℕ) (told other : List Told) →
+    (count first second : ℕ) (bytes rest left : List ℕ) (told other : List Told) →
+    ArePlain told → ArePlain other →
     ((k : ℕ) → IsSome (coming k)) → HasMoments coming place told → HasMoments coming place other →
-    Follows past bytes told after rest → Follows past bytes other later left →
-    length told ≡ length other → (told ≡ other) × (after ≡ later) × (rest ≡ left)
-one_transcript coming place past after later bytes rest left told other tells m n h k e =
-    let both = longer_begins_with_shorter coming place past after later bytes rest left told other
-    tells m n h k (omega arith) in
-    ends_alike after later rest left told other both.0 e both.1 both.2
+    Follows past count bytes told after first rest →
+    Follows past count bytes other later second left →
+    length told ≡ length other →
+    (told ≡ other) × (after ≡ later) × (first ≡ second) × (rest ≡ left)
+one_transcript coming place past after later count first second bytes rest left told other p q tells
+    m n h k e =
+    let both = longer_begins_with_shorter coming place past after later count first second bytes rest
+    left told other p q tells m n h k (omega arith) in
+    ends_alike after later first second rest left told other both.0 e both.1 both.2
 
 -- where no request is left no transcript goes on
-nothing_goes_on : (after later : Past) (rest left : List ℕ) (told other more : List Told) →
-    AsksNothing rest → other ≡ told ++ more → Follows after rest more later left →
-    length other ≤ length told
-nothing_goes_on after later rest left told other [] none is f =
+nothing_goes_on : (after later : Past) (first second : ℕ) (rest left : List ℕ)
+    (told other more : List Told) → AsksNothing rest → other ≡ told ++ more →
+    Follows after first rest more later second left → length other ≤ length told
+nothing_goes_on after later first second rest left told other [] none is f =
     omega (arith, ap length (is ∙ append-nil told))
-nothing_goes_on after later rest left told other (x ∷ more) none is f =
-    absurd (none x.request f.0 f.1)
+nothing_goes_on after later first second rest left told other (x ∷ more) none is f =
+    absurd (none x.request f.0 f.3)
 
 -- where no request is left at the end of a transcript no other is longer
 pub nothing_asked_is_last : (coming : ℕ → Option ℕ) (place : ℕ) (past after later : Past)
-    (bytes rest left : List ℕ) (told other : List Told) →
+    (count first second : ℕ) (bytes rest left : List ℕ) (told other : List Told) →
+    ArePlain told → ArePlain other →
     ((k : ℕ) → IsSome (coming k)) → HasMoments coming place told → HasMoments coming place other →
-    Follows past bytes told after rest → Follows past bytes other later left →
+    Follows past count bytes told after first rest →
+    Follows past count bytes other later second left →
     AsksNothing rest → length other ≤ length told
-nothing_asked_is_last coming place past after later bytes rest left told other tells m n h k none =
+nothing_asked_is_last coming place past after later count first second bytes rest left told other p q
+    tells m n h k none =
     elim (cases_lt (length told) (length other)) [
       | inr le ↦ le
-      | inl lt ↦ (let both = longer_begins_with_shorter coming place past after later bytes rest
-          left told other tells m n h k (omega arith) in nothing_goes_on after later rest left told
-          other both.0 none both.1 both.2)
+      | inl lt ↦ (let both = longer_begins_with_shorter coming place past after later count first
+          second bytes rest left told other p q tells m n h k (omega arith) in
+          nothing_goes_on after later first second rest left told other both.0 none both.1 both.2)
     ]
 
 -- where a request that asks for closing is followed by nothing, so is it in each longer list
@@ -245,27 +284,33 @@ closing_goes_nowhere true more is ends = ends
 closing_goes_nowhere false more is ends = cc
 
 -- after a transcript whose last request asks for closing no other goes on
-closed_goes_nowhere : (past later : Past) (bytes left : List ℕ) (told more : List Told) →
-    closes told ≡ true → Follows past bytes (told ++ more) later left → more ≡ []
-closed_goes_nowhere past later bytes left [] more is f = cc
-closed_goes_nowhere past later bytes left (x ∷ []) more is f =
-    closing_goes_nowhere x.request.close more is f.3
-closed_goes_nowhere past later bytes left (x ∷ y ∷ told) more is f =
-    closed_goes_nowhere (after_told past x) later f.0 left (y ∷ told) more is f.4
+closed_goes_nowhere : (past later : Past) (count second : ℕ) (bytes left : List ℕ)
+    (told more : List Told) → closes told ≡ true →
+    Follows past count bytes (told ++ more) later second left → more ≡ []
+closed_goes_nowhere past later count second bytes left [] more is f = cc
+closed_goes_nowhere past later count second bytes left (x ∷ []) more is f =
+    closing_goes_nowhere x.request.close more is f.5
+closed_goes_nowhere past later count second bytes left (x ∷ y ∷ told) more is f =
+    closed_goes_nowhere f.1 later f.2 second f.0 left (y ∷ told) more is f.6
 
 -- so no other transcript is longer
 pub closing_is_last : (coming : ℕ → Option ℕ) (place : ℕ) (past after later : Past)
-    (bytes rest left : List ℕ) (told other : List Told) →
+    (count first second : ℕ) (bytes rest left : List ℕ) (told other : List Told) →
+    ArePlain told → ArePlain other →
     ((k : ℕ) → IsSome (coming k)) → HasMoments coming place told → HasMoments coming place other →
-    Follows past bytes told after rest → Follows past bytes other later left →
+    Follows past count bytes told after first rest →
+    Follows past count bytes other later second left →
     IsTrue (closes told) → length other ≤ length told
-closing_is_last coming place past after later bytes rest left told other tells m n h k last =
+closing_is_last coming place past after later count first second bytes rest left told other p q tells
+    m n h k last =
     elim (cases_lt (length told) (length other)) [
       | inr le ↦ le
-      | inl lt ↦ (let both = longer_begins_with_shorter coming place past after later bytes rest
-          left told other tells m n h k (omega arith) in
-          let whole_of = subst (λ (os : List Told). Follows past bytes os later left) both.1 k in
-          let none = closed_goes_nowhere past later bytes left told both.0 last whole_of in
+      | inl lt ↦ (let both = longer_begins_with_shorter coming place past after later count first
+          second bytes rest left told other p q tells m n h k (omega arith) in
+          let whole_of = subst (λ (os : List Told). Follows past count bytes os later second left)
+          both.1 k in
+          let none = closed_goes_nowhere past later count second bytes left told both.0 last whole_of
+          in
           let same : other ≡ told = both.1 ∙ (ap (λ (os : List Told). told ++ os) none
           ∙ append-nil told) in
           omega (arith, ap length same))

@@ -21,7 +21,7 @@ use Rattle.site_types.specs.declared.refusal.Refusal.TheVariants.{NoPage, Denied
 use Rattle.site_types.specs.declared.reply.Reply.{Reply}
 use Rattle.site_types.specs.declared.reply.Reply.TheVariants as replies
 use Rattle.wire_model.specs.declared.answer.Answer.{Answer}
-use Rattle.wire_model.specs.declared.answer.Answer.TheVariants.{Accepted, Public, Page, Refs, Desk, Refused, NotFound, NotBuilt, Method, Form, NoUser, Head, Memory}
+use Rattle.wire_model.specs.declared.answer.Answer.TheVariants.{Accepted, Public, Page, Refs, Desk, Refused, NotFound, NotBuilt, Method, Form, NoUser, Head, Disk, Memory}
 
 -- a whole number
 abbrev pub whole : ℕ → Data
@@ -182,6 +182,14 @@ head_error status = refused_head (head_status status)
 abbrev pub plain_response : StatusCode → Data → Response
 plain_response status body = record { status = status; body = compact_text body; allow = None }
 
+-- the body that tells of a disk that failed, with its counts of faults before the call and after it
+abbrev pub disk_data : ℕ → ℕ → Data
+disk_data before after =
+    object
+    (member (codes "after") (whole after)
+    (member (codes "before") (whole before)
+    (member (codes "error") (string (codes "Disk")) no_members)))
+
 -- the response to an answer
 unfoldable pub response_of : Answer → Response
 response_of (Accepted entry reply) = plain_response statuses.Ok (reply_data entry reply)
@@ -200,5 +208,7 @@ response_of (Method allow) =
     }
 response_of Form = plain_response statuses.BadRequest (error_data (codes "Form"))
 response_of NoUser = plain_response statuses.Unauthorized (error_data (codes "NoUser"))
+response_of (Disk before after) =
+    plain_response statuses.ServerError (disk_data before after)
 response_of Memory = plain_response statuses.Unavailable (error_data (codes "Memory"))
 response_of (Head status) = plain_response (head_status status) (error_data (head_error status))

@@ -1,5 +1,5 @@
 -- The exchange of one request: which answer it gets after a history, and what that adds to it.
-use Rattle.std.specs.Prelude.{ℕ, ◌+◌, List, [], ◌∷◌, ◌++◌, Option, Some, None, Result, Ok, Err}
+use Rattle.std.specs.Prelude.{ℕ, ◌+◌, List, [], ◌∷◌, ◌++◌, length, Option, Some, None, Result, Ok, Err}
 use Rattle.sha2.specs.Sha256.{sha256}
 use Rattle.site_types.specs.Content.{ContentValue}
 use Rattle.site_types.specs.declared.command.Command.{Command}
@@ -7,7 +7,8 @@ use Rattle.site_types.specs.declared.entry.Entry.{Entry}
 use Rattle.site_types.specs.declared.refusal.Refusal.{Refusal}
 use Rattle.site_types.specs.declared.refusal.Refusal.TheVariants.{NoPage, NoDesk, LogFull}
 use Rattle.site_types.specs.declared.reply.Reply.{Reply}
-use Rattle.site_history.specs.Log.{no_log}
+use Rattle.byte_forms.specs.Entries.{entry_form}
+use Rattle.site_history.specs.Log.{journal_log}
 use Rattle.site_history.specs.History.{Tally, History, Item, Decider, accepted}
 use Rattle.site_history.specs.History as histories
 use Rattle.site_model.specs.World.{World}
@@ -35,9 +36,20 @@ Past = History World Entry Reply
 abbrev pub number_of : Entry → ℕ
 number_of entry = entry.number
 
--- how entries are decided: by the step of the world; nothing is written
+-- how many bytes the form of an entry takes
+abbrev pub entry_size : Entry → ℕ
+entry_size entry = length (entry_form entry)
+
+-- how entries are decided: by the step of the world, and then by the room in the journal, to which
+-- each one that is accepted is written
 abbrev pub decider : Decider World Entry Reply Refusal
-decider = record { step = step; number_of = number_of; logging = no_log; log_full = LogFull }
+decider =
+    record {
+      step = step;
+      number_of = number_of;
+      logging = journal_log entry_size;
+      log_full = LogFull;
+    }
 
 -- what a history comes to
 abbrev pub tally_of : Past → Tally World

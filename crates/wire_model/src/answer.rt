@@ -30,6 +30,9 @@ pub enum Answer {
     NoUser,
     /// The front of the input is no request: 400, 413 or 431. The connection ends.
     Head(u16),
+    /// The disk failed while the command was written, which no rule refuses: its counts of faults
+    /// before the call and after it. The site is as it was.
+    Disk(u64, u64),
     /// The memory ran out, and nothing was done.
     Memory,
 }

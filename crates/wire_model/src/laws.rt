@@ -1,6 +1,6 @@
 //! Laws of transcripts and of what requests ask for. Each is a function that does nothing: its
 //! contract is the law.
-ghost use Rattle.wire_model.specs.Laws.{TranscriptStays, TranscriptKeepsLegal, LongerBeginsWithShorter, OneTranscript, NothingAskedIsLast, ClosingIsLast, EachFormHasARoute, RoutesFit, TimesAreTexts};
+ghost use Rattle.wire_model.specs.Laws.{TranscriptStays, TranscriptKeepsLegal, LongerBeginsWithShorter, OneTranscript, NothingAskedIsLast, ClosingIsLast, EachFormHasARoute, RoutesFit, RoutesKeepForm, TimesAreTexts};
 
 /// A transcript stays one when more bytes follow.
 pub fn transcript_stays()
@@ -40,6 +40,11 @@ pub fn each_form_has_a_route()
 /// Each command that a request can ask for fits.
 pub fn routes_fit()
     ensures { RoutesFit }
+{}
+
+/// Each command that a request can ask for keeps its form.
+pub fn routes_keep_form()
+    ensures { RoutesKeepForm }
 {}
 
 /// A text is read as a moment exactly if it is that moment's text.

@@ -1,10 +1,9 @@
--- Once a request is answered, the site may answer one fewer.
+-- A store that answered a request may be asked more.
 use Rattle.http_wire.specs.Reading.{request_of}
-use Rattle.pagetree_session.proofs.SessionLemmas.{answers_one_fewer}
+use Rattle.pagetree_session.proofs.SessionLemmas.{may_go_on}
 use Rattle.pagetree_session.proofs.session.SessionAnswerer.answer.Goals as goal
 
 pub returns-clause-may : goal.returns-clause-may
-returns-clause-may c =
-    answers_one_fewer c.args.self.now.site c.answer_request.new.site
-    (request_of c.args.request.now) c.args.now c.answer_request.result
+returns-clause-may g c = λ more may.
+    may_go_on _ _ _ _ (request_of c.args.request.now) c.args.now c.answer_request.result may
     c.answer_request.ensures.ok
